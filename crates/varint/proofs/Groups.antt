@@ -1,0 +1,186 @@
+-- The groups of a number: how seven bits are joined to those read before, and what the definition says while k groups are held.
+use Prim.Native.Nat.{ℕ, zero, suc, _+_, _*_, _/_, _%_, _^_, _-_, _≤_, _<_}
+use mathlib.Core.Path.{_≡_, refl, sym, _∙_, ap, subst}
+use mathlib.Core.Bool.{Bool, true, false}
+use mathlib.Core.List.{List}
+use native.Mathlib.Nat.{add-comm, add-assoc, add-zero, mul-le-mul-right, lt-of-lt-of-le}
+use native.Mathlib.Omega.{arith}
+use lib.ListN.{length, getD}
+use lib.Bits.{bitAnd, bitOr, and-mask, or-shifted-r}
+use lib.Pow.{shl-exact, pow-add, shl-lt, pow-mono, pow-pos}
+use lib.Dec.{ltb}
+use borrow.Author.Tests.{lt-ltb, le-ltb, le-leb, lt-leb, ltb-true, ltb-false}
+use Rattle.refusal.specs.declared.Refusal.{Refusal}
+use Rattle.grammar.specs.declared.Cursor.{Cursor}
+use Rattle.grammar.specs.Outcome.{advanced, Outcome, got, refused, after, pure, refuse, _>>=_, _>>_}
+use Rattle.grammar.specs.Combinators.{if_then_else_, enough, taking, byte, check}
+use Rattle.grammar.specs.Number.{groups, number}
+use Rattle.grammar.proofs.Number.{tested, number-tested}
+use Rattle.varint.specs.Holding.{held, Holding}
+
+-- a byte's payload, shifted behind the k groups held, or'ed in
+pub joined-is : (value byte k : ℕ) → k < 9 → value < 2 ^ (7 * k) →
+    bitOr value (bitAnd byte 127 * 2 ^ (7 * k) % 2 ^ 64) ≡ value + byte % 128 * 2 ^ (7 * k)
+joined-is value byte k h fits =
+    rw (and-mask byte 7, shl-exact {a = byte % 128} 7 (7 * k) 64 (omega arith) (omega arith), or-shifted-r (byte % 128) (7 * k) value fits)
+    (add-comm _ _)
+
+seven-more : (k : ℕ) → 2 ^ (7 * (k + 1)) ≡ 128 * 2 ^ (7 * k)
+seven-more k = ap (λ (n : ℕ). 2 ^ n) (omega arith) ∙ pow-add 2 7 (7 * k)
+
+-- one group joined is still below the next power
+pub joined-fits : (value b k : ℕ) → value < 2 ^ (7 * k) → value + b % 128 * 2 ^ (7 * k) < 2 ^ (7 * (k + 1))
+joined-fits value b k h = rw (seven-more k) (omega (arith, group-fits))
+  where
+    group-fits : b % 128 * 2 ^ (7 * k) ≤ 127 * 2 ^ (7 * k)
+    group-fits = mul-le-mul-right (2 ^ (7 * k)) (omega arith)
+
+-- what a group more does: it continues, it is the last, or there is none
+module _ (s : List ℕ) (c : Cursor) (k n : ℕ) where
+  abbrev at-k : ℕ
+  at-k = getD s (c .at + k) 0
+
+  held-more : (value : ℕ) → c .at + k < length s → 128 ≤ at-k →
+      held value k (groups (suc n) s (advanced c k)) ≡ held (value + at-k % 128 * 2 ^ (7 * k)) (k + 1) (groups n s (advanced c (k + 1)))
+  unfolding groups byte taking _>>=_ pure
+  held-more value h cont =
+      rw (le-leb (c .at + k + 1) (length s) (omega arith), le-ltb at-k 128 cont, add-assoc (c .at) k 1) (go (groups n s (advanced c (k + 1))))
+    where
+      go : (o : Outcome ℕ) →
+          held value k (after o (λ more next. got (at-k % 128 + 128 * more) next)) ≡ held (value + at-k % 128 * 2 ^ (7 * k)) (k + 1) o
+      go (got more next) = ap (λ (v : ℕ). got v next) (rw (seven-more k) (omega arith))
+      go (refused r) = refl
+
+  held-last : (value : ℕ) → c .at + k < length s → at-k < 128 →
+      held value k (groups (suc n) s (advanced c k)) ≡ got (value + at-k % 128 * 2 ^ (7 * k)) (advanced c (k + 1))
+  unfolding groups byte taking _>>=_ pure
+  held-last value h last =
+      let same : at-k % 128 ≡ at-k = omega arith in
+      rw (le-leb (c .at + k + 1) (length s) (omega arith), lt-ltb at-k 128 last, add-assoc (c .at) k 1, same)
+
+  held-none : (value : ℕ) → length s ≤ c .at + k → held value k (groups (suc n) s (advanced c k)) ≡ refused Refusal.Truncated
+  unfolding groups byte taking _>>=_
+  held-none value h = rw (lt-leb (c .at + k + 1) (length s) (omega arith))
+
+pub holding-none : (s : List ℕ) (c : Cursor) → c .at < length s → Holding s c 0 0
+holding-none s c h = record { few = omega arith; inside = omega arith; fits = omega arith; rest = rw (add-zero (c .at)) (go (groups 10 s c)) }
+  where
+    go : (o : Outcome ℕ) → o ≡ held 0 0 o
+    go (got v next) = ap (λ (n : ℕ). got n next) (omega arith)
+    go (refused r) = refl
+
+-- past the end before any group
+pub none-left : (s : List ℕ) (c : Cursor) → length s ≤ c .at → number 64 s c ≡ refused Refusal.Truncated
+unfolding groups byte taking _>>=_
+none-left s c h = rw (number-tested 64 s c, lt-leb (c .at + 1) (length s) (omega arith))
+
+module _ {s : List ℕ} {c : Cursor} {value k : ℕ} (g : Holding s c value k) where
+  -- what the rest comes to is what the number comes to
+  number-from : {o : Outcome ℕ} → held value k (groups (suc (9 - k)) s (advanced c k)) ≡ o → number 64 s c ≡ tested 64 o
+  number-from e =
+      let n : 10 - k ≡ suc (9 - k) = omega (arith, g .few) in
+      rw (number-tested 64 s c, g .rest, n, e)
+
+  pub holding-cut : length s ≤ c .at + k → number 64 s c ≡ refused Refusal.Truncated
+  holding-cut h = number-from (held-none s c k (9 - k) value h)
+
+  pub holding-last : k < 9 → c .at + k < length s → getD s (c .at + k) 0 < 128 →
+      number 64 s c ≡ got (value + getD s (c .at + k) 0 % 128 * 2 ^ (7 * k)) (advanced c (k + 1))
+  holding-last few h last = rw (number-from (held-last s c k (9 - k) value h last), lt-ltb _ (2 ^ 64) below)
+    where
+      below : value + getD s (c .at + k) 0 % 128 * 2 ^ (7 * k) < 2 ^ 64
+      below = lt-of-lt-of-le (joined-fits value _ k (g .fits)) (pow-mono {i = 7 * (k + 1)} {j = 64} (omega arith))
+
+  pub holding-more : k < 9 → c .at + k < length s → 128 ≤ getD s (c .at + k) 0 →
+      Holding s c (value + getD s (c .at + k) 0 % 128 * 2 ^ (7 * k)) (k + 1)
+  holding-more few h more =
+      record { few = omega arith; inside = omega arith; fits = joined-fits value _ k (g .fits); rest = next }
+    where
+      next : groups 10 s c ≡ held (value + getD s (c .at + k) 0 % 128 * 2 ^ (7 * k)) (k + 1) (groups (10 - (k + 1)) s (advanced c (k + 1)))
+      next =
+          let n : 10 - k ≡ suc (9 - k) = omega arith in
+          let n′ : 10 - (k + 1) ≡ 9 - k = omega arith in
+          rw (g .rest, n, n′) (held-more s c k (9 - k) value h more)
+
+pub holding-at : {s : List ℕ} {c : Cursor} {value k n : ℕ} → Holding s c value k → k ≡ n → Holding s c value n
+holding-at {s} {c} {value} g e = subst (Holding s c value) e g
+
+-- no group is left
+ended : (s : List ℕ) (c : Cursor) (value k : ℕ) → held value k (groups 0 s (advanced c k)) ≡ refused Refusal.MalformedVarint
+unfolding groups refuse
+ended s c value k = refl
+
+-- the tenth group: one bit is left for it
+module _ {s : List ℕ} {c : Cursor} {value : ℕ} (g : Holding s c value 9) (h : c .at + 9 < length s) where
+  abbrev tenth : ℕ
+  tenth = getD s (c .at + 9) 0
+
+  pub tenth-fits : tenth ≤ 1 → number 64 s c ≡ got (bitOr value (tenth * 2 ^ 63 % 2 ^ 64)) (advanced c 10)
+  tenth-fits one =
+      let same : tenth % 128 ≡ tenth = omega arith in
+      let below : value + tenth * 2 ^ 63 < 2 ^ 64 = omega (arith, g .fits) in
+      rw (
+        number-from g (held-last s c 9 0 value h (omega arith)),
+        same,
+        lt-ltb _ (2 ^ 64) below,
+        shl-exact {a = tenth} 1 63 64 (omega arith) (omega arith),
+        or-shifted-r tenth 63 value (g .fits),
+        add-comm (tenth * 2 ^ 63) value,
+      )
+
+  pub tenth-wide : 1 < tenth → number 64 s c ≡ refused Refusal.MalformedVarint
+  tenth-wide wide = go (ltb tenth 128) refl
+    where
+      go : (b : Bool) → ltb tenth 128 ≡ b → number 64 s c ≡ refused Refusal.MalformedVarint
+      go true e =
+          let last : tenth < 128 = ltb-true _ _ e in
+          let above : 2 ^ 64 ≤ value + tenth % 128 * 2 ^ 63 = omega arith in
+          rw (number-from g (held-last s c 9 0 value h last), le-ltb _ (2 ^ 64) above)
+      go false e = number-from g (held-more s c 9 0 value h (ltb-false _ _ e) ∙ ended s c _ 10)
+
+-- within a loop that reads the first nine groups, or those that are there
+pub record Reading (s : List ℕ) (c : Cursor) (value k left most : ℕ) : Type 0 where
+  pub holds : Holding s c value k
+  pub all : left + c .at ≡ length s
+  pub most-few : most ≤ 9
+  pub there : most ≤ left
+  pub cut : left ≤ 9 → left ≤ most
+  pub nine : 9 ≤ left → 9 ≤ most
+
+module _ {s : List ℕ} {c : Cursor} {value k left most : ℕ} where
+  pub reading-cut : Holding s c value k → left + c .at ≡ length s → left < 9 → most ≡ left → Reading s c value k left most
+  reading-cut g all h e =
+      record { holds = g; all = all; most-few = omega arith; there = omega arith; cut = λ _. omega arith; nine = λ long. absurd (omega arith) }
+
+  pub reading-nine : Holding s c value k → left + c .at ≡ length s → 9 ≤ left → most ≡ 9 → Reading s c value k left most
+  reading-nine g all h e =
+      record { holds = g; all = all; most-few = omega arith; there = omega arith; cut = λ short. omega arith; nine = λ _. omega arith }
+
+  module _ (r : Reading s c value k left most) where
+    pub reading-inside : k < most → c .at + k < length s
+    reading-inside h = omega (arith, r .there, r .all)
+
+    pub reading-few : k < most → k < 9
+    reading-few h = omega (arith, r .most-few)
+
+    pub reading-more : k < most → 128 ≤ getD s (c .at + k) 0 → Reading s c (value + getD s (c .at + k) 0 % 128 * 2 ^ (7 * k)) (k + 1) left most
+    reading-more h more =
+        record {
+          holds = holding-more (r .holds) (reading-few h) (reading-inside h) more;
+          all = r .all;
+          most-few = r .most-few;
+          there = r .there;
+          cut = r .cut;
+          nine = r .nine;
+        }
+
+    pub reading-last : k < most → getD s (c .at + k) 0 < 128 →
+        number 64 s c ≡ got (value + getD s (c .at + k) 0 % 128 * 2 ^ (7 * k)) (advanced c (k + 1))
+    reading-last h last = holding-last (r .holds) (reading-few h) (reading-inside h) last
+
+    -- all that are there are read, and none was the last
+    pub reading-none : most ≤ k → left ≤ 9 → number 64 s c ≡ refused Refusal.Truncated
+    reading-none h short = holding-cut (r .holds) (omega (arith, r .cut short, r .all))
+
+    pub nine-read : most ≤ k → 9 < left → Holding s c value 9
+    nine-read h long = holding-at (r .holds) (omega (arith, r .nine (omega arith), r .holds .few))
