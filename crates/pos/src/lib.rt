@@ -1,0 +1,202 @@
+// Position tables: from an instruction's address back to a line and a column (pos/mod.rs).
+ghost use mathlib.Core.Path.{_≡_};
+ghost use lib.ListN.{length};
+ghost use Rattle.pos.specs.Encode.{sitesOf, encoded, encodedBytes};
+ghost use Rattle.pos.specs.Table.{counted, checked, resolved, siteFor};
+ghost use Rattle.pos.specs.Steps.{endedAt};
+ghost use Rattle.pos.specs.Skim.{Checking, sought};
+use grammar::Cursor;
+use reading::ReadSite;
+use refusal::PositionsFault;
+use refusal::Refusal;
+use skim::Walk;
+use varint::ReadIndex;
+
+mod encoding;
+mod reading;
+mod skim;
+
+// A place in a source file, and the address that it is recorded for.
+pub struct Site {
+    pub address: u32,
+    pub line: u32,
+    pub column: u32,
+}
+
+pub enum Checked {
+    Sound,
+    Refused(Refusal),
+}
+
+pub enum Counted {
+    Entries(u32),
+    Refused(Refusal),
+}
+
+pub enum Resolved {
+    At { line: u32, column: u32 },
+    Nothing,
+}
+
+// How many bytes were written, or why none was.
+pub enum Encoded {
+    Done { size: usize },
+    Refused(Refusal),
+}
+
+// The site recorded for an address, if the table has one. A malformed table also reads as none: resolving happens while
+// an error is reported, and must not replace it.
+pub fn resolve(table: &[u8], address: u32) -> Resolved
+    ensures { λ r. ⌜ r ≡ resolved (now (table .entry)) address ⌝ }
+{
+    let w = skim::skim(table, address as u64);
+    if 0 < w.c.at {
+        return seek(table, address, w);
+    }
+    match reading::field(table, Cursor::new()) {
+        ReadIndex::Got { value, next } => seek(table, address, skim::begun(next, value)),
+        ReadIndex::Refused(_) => Resolved::Nothing,
+    }
+}
+
+// The walk stops at the first entry whose address equals or passes the one asked.
+fn seek(table: &[u8], asked: u32, from: Walk) -> Resolved
+    ensures { λ r. ⌜ r ≡ sought (now (table .entry)) asked from ⌝ }
+{
+    if 0 < from.left {
+        let e = skim::three(table, from.c);
+        if 0 < e.size {
+            if from.address as u64 + e.step as u64 == asked as u64 {
+                return site_for(
+                    asked,
+                    Site {
+                        address: asked,
+                        line: e.line,
+                        column: e.column,
+                    },
+                );
+            }
+        }
+    }
+    seek_on(table, asked, from)
+}
+
+// The same, an entry at a time.
+fn seek_on(table: &[u8], asked: u32, from: Walk) -> Resolved
+    ensures { λ r. ⌜ r ≡ sought (now (table .entry)) asked from ⌝ }
+{
+    let mut c = from.c;
+    let mut left = from.left;
+    let mut address = from.address;
+    while 0 < left {
+        match reading::entry(table, c, 0, address) {
+            ReadSite::Got { site, next } => {
+                if asked <= site.address {
+                    return site_for(asked, site);
+                }
+                c = next;
+                left -= 1;
+                address = site.address;
+            }
+            ReadSite::Refused(_) => {
+                return Resolved::Nothing;
+            }
+        }
+    }
+    Resolved::Nothing
+}
+
+fn site_for(asked: u32, site: Site) -> Resolved
+    ensures { λ r. ⌜ r ≡ siteFor asked site ⌝ }
+{
+    if site.address != asked {
+        return Resolved::Nothing;
+    }
+    if site.line == 0 {
+        return Resolved::Nothing;
+    }
+    Resolved::At {
+        line: site.line,
+        column: site.column,
+    }
+}
+
+// How many entries the table says it holds, without reading them.
+pub fn count(table: &[u8]) -> Counted
+    ensures { λ r. ⌜ r ≡ counted (now (table .entry)) ⌝ }
+{
+    match reading::field(table, Cursor::new()) {
+        ReadIndex::Got { value, next: _ } => Counted::Entries(value),
+        ReadIndex::Refused(r) => Counted::Refused(r),
+    }
+}
+
+// Whether a table is well formed, so that resolving need not look: the first thing wrong.
+pub fn check(table: &[u8]) -> Checked
+    ensures { λ r. ⌜ r ≡ checked (now (table .entry)) ⌝ }
+{
+    let w = skim::skim(table, 0x1_0000_0000);
+    if 0 < w.c.at {
+        return entries(table, w);
+    }
+    match reading::field(table, Cursor::new()) {
+        ReadIndex::Got { value, next } => entries(table, skim::begun(next, value)),
+        ReadIndex::Refused(r) => Checked::Refused(r),
+    }
+}
+
+// The entries that are left, and then the end.
+fn entries(table: &[u8], from: Walk) -> Checked
+    requires { ⌜ Checking (now table) from ⌝ }
+    ensures { λ r. ⌜ r ≡ checked (now (table .entry)) ⌝ }
+{
+    let mut c = from.c;
+    let mut left = from.left;
+    let mut least = from.least;
+    let mut address = from.address;
+    while 0 < left {
+        match reading::entry(table, c, least, address) {
+            ReadSite::Got { site, next } => {
+                c = next;
+                left -= 1;
+                least = 1;
+                address = site.address;
+            }
+            ReadSite::Refused(r) => {
+                return Checked::Refused(r);
+            }
+        }
+    }
+    ended(table.len(), c)
+}
+
+// Bytes behind the last entry: this is not the table that it claims to be.
+fn ended(size: usize, c: Cursor) -> Checked
+    ensures { λ r. ⌜ r ≡ endedAt size (c .at) ⌝ }
+{
+    let at = c.at;
+    if at == size {
+        return Checked::Sound;
+    }
+    if size < at {
+        return Checked::Refused(Refusal::Positions(PositionsFault::Trailing { count: 0 }));
+    }
+    Checked::Refused(Refusal::Positions(PositionsFault::Trailing { count: size - at }))
+}
+
+// A table of the sites that three slices hold, in ascending order of address. Those of line 0 carry no information and
+// are dropped. Where it is refused, `out` is as it was.
+pub fn encode(addresses: &[u32], lines: &[u32], columns: &[u32], out: &mut [u8]) -> Encoded
+    ensures { λ r. ⌜ r ≡ encoded (sitesOf (now (addresses .entry)) (now (lines .entry)) (now (columns .entry))) (length (now (out .entry))) ⌝ }
+    ensures { λ _. ⌜ now (out .exit) ≡ encodedBytes (sitesOf (now (addresses .entry)) (now (lines .entry)) (now (columns .entry))) (now (out .entry)) ⌝ }
+{
+    let n = encoding::places(addresses, lines, columns);
+    let m = encoding::measure(addresses, lines, columns);
+    match encoding::judged(n, m, out.len()) {
+        Encoded::Done { size } => {
+            encoding::write(addresses, lines, columns, m.kept, out);
+            Encoded::Done { size }
+        }
+        Encoded::Refused(r) => Encoded::Refused(r),
+    }
+}
