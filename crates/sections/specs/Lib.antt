@@ -1,0 +1,4 @@
+-- What the contracts of this crate cite, beside the definition of the file.
+pub mod Answers
+pub mod Names
+pub mod Items
