@@ -1,0 +1,18 @@
+-- What a step of the reader promises: it hands a refusal on, and otherwise does what its section does.
+use Prim.Native.Nat.{ℕ, _-_}
+use mathlib.Core.Path.{_≡_}
+use mathlib.Core.List.{List}
+use lib.ListN.{length}
+use lib.Dec.{eqb}
+use Rattle.refusal.specs.declared.Refusal.{Refusal}
+use Rattle.grammar.specs.declared.Cursor.{Cursor}
+use Rattle.grammar.specs.Combinators.{if_then_else_}
+use Rattle.reading.specs.declared.place.Place.{Place}
+
+pub record Step (before : Place) (stopped : Refusal → Type 0) (went : Cursor → Type 0) : Type 0 where
+  pub stops : (r : Refusal) → before ≡ Place.Refused r → stopped r
+  pub goes : (c : Cursor) → before ≡ Place.At c → went c
+
+-- behind the last section: at the end, or with so many bytes left over
+abbrev pub endPlace : List ℕ → Cursor → Place
+endPlace s c = if eqb (c .at) (length s) then Place.At c else Place.Refused (Refusal.TrailingBytes (length s - c .at))
