@@ -1,0 +1,2 @@
+-- One statement: every starred case holds.
+pub mod Hold
