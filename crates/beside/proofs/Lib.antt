@@ -1,0 +1,2 @@
+-- What the proofs of the exported reads share.
+pub mod Told

@@ -1,0 +1,3 @@
+-- What the exported functions answer and leave.
+pub mod Beside
+pub mod Positions

@@ -1,0 +1,2 @@
+-- What a proof of this program needs of put.
+pub mod Room
