@@ -2,4 +2,3 @@
 pub mod LowFirst
 pub mod Texts
 pub mod Ends
-pub mod Items

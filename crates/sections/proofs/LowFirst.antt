@@ -24,15 +24,6 @@ module _ (n : ℕ) (s : List ℕ) (c : Cursor) where
   unfolding fixed taking
   fixed-there h = rw (le-leb (c .at + n) (length s) h)
 
-module _ (s : List ℕ) (c : Cursor) where
-  pub byte-none : length s < c .at + 1 → byte s c ≡ refused Refusal.Truncated
-  unfolding byte taking
-  byte-none h = rw (lt-leb (c .at + 1) (length s) h)
-
-  pub byte-there : c .at + 1 ≤ length s → byte s c ≡ got (getD s (c .at) 0) (advanced c 1)
-  unfolding byte taking
-  byte-there h = rw (le-leb (c .at + 1) (length s) h)
-
 -- n bytes are below 8 n bits
 pub low-small : (n : ℕ) (s : List ℕ) (at : ℕ) → ((i : ℕ) → Fits w8 (getD s i 0)) → lowFirst n s at < 2 ^ (8 * n)
 low-small zero s at bytes = omega arith

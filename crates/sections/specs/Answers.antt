@@ -8,22 +8,19 @@ use Rattle.refusal.specs.declared.Refusal.{Refusal}
 use Rattle.grammar.specs.declared.Cursor.{Cursor}
 use Rattle.grammar.specs.declared.Span.{Span}
 use Rattle.grammar.specs.Outcome.{Outcome, got, refused, Parser, pure, _>>=_, _>>_}
-use Rattle.grammar.specs.Combinators.{byte, fixed, Text, textAt, check}
+use Rattle.grammar.specs.Combinators.{if_then_else_, byte, fixed, Text, textAt, check}
+use Rattle.pos.specs.declared.Checked.{Checked}
+use Rattle.pos.specs.Table.{checked}
 use Rattle.varint.specs.declared.ReadNumber.{ReadNumber}
 use Rattle.varint.specs.Answers.{numberIs}
 use Rattle.format.specs.declared.records.NameIndex.{NameIndex}
 use Rattle.format.specs.declared.records.Assign.{Assign}
 use Rattle.format.specs.Artifact as A
 use Rattle.format.specs.File as definition
-use Rattle.sections.specs.declared.fixed.ReadByte.{ReadByte}
 use Rattle.sections.specs.declared.header.ReadHeader.{ReadHeader}
 use Rattle.sections.specs.declared.assigns.ReadAssign.{ReadAssign}
 
 -- ── fields of a fixed number of bytes ──
-
-abbrev pub byteIs : ReadByte → Outcome ℕ
-byteIs (ReadByte.Got value next) = got value next
-byteIs (ReadByte.Refused r) = refused r
 
 -- n bytes as a number, which is below so many bits
 pub record FixedRead (n : ℕ) (s : List ℕ) (c : Cursor) (answer : ReadNumber) : Type 0 where
@@ -92,3 +89,9 @@ assignOp text token name = do
   op ← definition.string
   opName ← definition.nameIndex
   pure (record { opAssign = textAt text token; opAssignName = name; op = op; opName = opName })
+
+-- ── 10. the position table ──
+
+-- what a check says of the table's bytes; length 0 means stripped
+abbrev pub positionsSound : Text → Checked
+positionsSound t = if eqb (t .span .size) 0 then Checked.Sound else checked (t .bytes)

@@ -1,4 +1,3 @@
 -- What the contracts of this crate cite, beside the definition of the file.
 pub mod Answers
 pub mod Names
-pub mod Items

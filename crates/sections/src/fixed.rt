@@ -1,29 +1,10 @@
-// Fields of a fixed number of bytes, low first (`byte` and `take` of `Cursor` in format/mod.rs).
+// Fields of a fixed number of bytes, low first (`take` of `Cursor` in format/mod.rs).
 ghost use mathlib.Core.Path.{_≡_};
 ghost use Prim.Native.Nat.{_≤_};
-ghost use Rattle.grammar.specs.Combinators.{byte as oneByte, fixed as lowBytesFirst};
-ghost use Rattle.sections.specs.Answers.{byteIs, FixedRead};
+ghost use Rattle.sections.specs.Answers.{FixedRead};
 use grammar::Cursor;
 use refusal::Refusal;
 use varint::ReadNumber;
-
-pub enum ReadByte {
-    Got { value: u8, next: Cursor },
-    Refused(Refusal),
-}
-
-pub fn byte(s: &[u8], c: Cursor) -> ReadByte
-    ensures { λ r. ⌜ oneByte (now (s .entry)) c ≡ byteIs r ⌝ }
-{
-    let at = c.at;
-    if s.len() <= at {
-        return ReadByte::Refused(Refusal::Truncated);
-    }
-    ReadByte::Got {
-        value: s[at],
-        next: c.advance(1),
-    }
-}
 
 fn wide(b: u8) -> u64
     ensures { λ r. ⌜ r ≡ b ⌝ }

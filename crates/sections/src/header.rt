@@ -5,7 +5,7 @@ ghost use lib.ListN.{length, take, drop};
 ghost use Rattle.format.specs.File as definition;
 ghost use Rattle.sections.specs.Answers.{headerIs, headerVersion, headerWidths, headerCaps, headerId};
 use crate::fixed;
-use crate::fixed::ReadByte;
+use fields::ReadByte;
 use fields::ReadText;
 use format::tags::Header;
 use grammar::Cursor;
@@ -79,11 +79,11 @@ fn version(s: &[u8], c: Cursor) -> ReadHeader
 fn widths(s: &[u8], c: Cursor) -> ReadHeader
     ensures { λ r. ⌜ headerWidths (now (s .entry)) c ≡ headerIs r ⌝ }
 {
-    match fixed::byte(s, c) {
+    match fields::byte(s, c) {
         ReadByte::Got {
             value: int,
             next: behind,
-        } => match fixed::byte(s, behind) {
+        } => match fields::byte(s, behind) {
             ReadByte::Got { value: float, next } => caps(s, next, int, float),
             ReadByte::Refused(r) => ReadHeader::Refused(r),
         },

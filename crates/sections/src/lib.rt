@@ -1,9 +1,8 @@
-// The header, the names, and the sections whose records stand in one table, or in one and that of their items.
+// The header, the names, the sections whose records stand in one table, and the position table.
 
 pub mod assigns;
-pub mod customs;
 pub mod fixed;
-pub mod functions;
 pub mod header;
 pub mod names;
+pub mod positions;
 pub mod tokens;
