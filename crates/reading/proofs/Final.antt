@@ -13,7 +13,7 @@ use Rattle.grammar.specs.Combinators.{if_then_else_, ended}
 use Rattle.grammar.specs.Combinators as combinators
 use Rattle.format.specs.Artifact as A
 use Rattle.format.specs.File as file
-use Rattle.reading.specs.declared.place.Place.{Place}
+use Rattle.reading.specs.declared.steps.Place.{Place}
 use Rattle.reading.specs.Steps.{Step, endPlace}
 use Rattle.reading.proofs.Joining.{Reached, stopped, reached}
 

@@ -7,7 +7,7 @@ use lib.ListN.{length}
 use Rattle.refusal.specs.declared.Refusal.{Refusal}
 use Rattle.grammar.specs.declared.Cursor.{Cursor}
 use Rattle.grammar.specs.Outcome.{Outcome, got, refused, Parser, after, _>>=_}
-use Rattle.reading.specs.declared.place.Place.{Place}
+use Rattle.reading.specs.declared.steps.Place.{Place}
 
 -- The whole comes to `rest` of a value that was read, at the place where the reader stands, and a fact is known of the value;
 -- or the whole is refused, and the reader stands at the refusal.
@@ -19,6 +19,11 @@ pub data Reached {A B : Type 0} (whole : Outcome B) (s : List ℕ) (rest : A →
 pub data Told {X : Type 0} (Fact : X → Type 0) (place : Place) : Outcome X → Type 0 where
   at : {v : X} {next : Cursor} → place ≡ Place.At next → Fact v → Told Fact place (got v next)
   stop : {r : Refusal} → place ≡ Place.Refused r → Told Fact place (refused r)
+
+-- a section was stepped from one place to the next
+pub record Stepped {X : Type 0} (section : Parser X) (Fact : X → Type 0) (s : List ℕ) (before behind : Place) : Type 0 where
+  pub stops : (r : Refusal) → before ≡ Place.Refused r → behind ≡ Place.Refused r
+  pub tells : (c : Cursor) → before ≡ Place.At c → Told Fact behind (section s c)
 
 -- one section more: it hands a refusal on, and otherwise its outcome tells of the place behind it
 pub joined : {A X B : Type 0} {whole : Outcome B} {s : List ℕ} (section : A → Parser X) (g : A → X → Parser B) {Fact : A → Type 0}

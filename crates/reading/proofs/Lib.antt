@@ -4,3 +4,4 @@ pub mod Joining
 pub mod Telling
 pub mod Whole
 pub mod Final
+pub mod Answering

@@ -4,16 +4,16 @@ use mathlib.Core.Path.{_≡_, subst, sym}
 use native.Mathlib.Omega.{arith}
 use Rattle.refusal.specs.declared.Refusal.{Refusal}
 use Rattle.grammar.specs.declared.Cursor.{Cursor}
-use Rattle.reading.specs.declared.place.Place.{Place}
+use Rattle.reading.specs.declared.steps.Place.{Place}
 use Rattle.reading.specs.Steps.{Step}
 
-at-refused : {before : Place} {c : Cursor} {r : Refusal} → before ≡ Place.At c → before ≡ Place.Refused r → ⊥
+pub at-refused : {before : Place} {c : Cursor} {r : Refusal} → before ≡ Place.At c → before ≡ Place.Refused r → ⊥
 at-refused e f = let z : _≡_ {A = ℕ} 0 1 = cc in omega arith
 
-same-place : {before : Place} {c d : Cursor} → before ≡ Place.At c → before ≡ Place.At d → c ≡ d
+pub same-place : {before : Place} {c d : Cursor} → before ≡ Place.At c → before ≡ Place.At d → c ≡ d
 same-place e f = cc
 
-same-refusal : {before : Place} {r q : Refusal} → before ≡ Place.Refused r → before ≡ Place.Refused q → r ≡ q
+pub same-refusal : {before : Place} {r q : Refusal} → before ≡ Place.Refused r → before ≡ Place.Refused q → r ≡ q
 same-refusal e f = cc
 
 pub step-goes : {before : Place} {stopped : Refusal → Type 0} {went : Cursor → Type 0} {c : Cursor} → before ≡ Place.At c → went c →

@@ -17,13 +17,8 @@ use Rattle.format.specs.declared.records.Input.{Input}
 use Rattle.format.specs.declared.records.Function.{Function}
 use Rattle.format.specs.Artifact as A
 use Rattle.format.specs.File as file
-use Rattle.reading.specs.declared.place.Place.{Place}
-use Rattle.reading.proofs.Joining.{Reached, stopped, reached, Told, joined}
-
--- a section was stepped from one place to the next
-pub record Stepped {X : Type 0} (section : Parser X) (Fact : X → Type 0) (s : List ℕ) (before behind : Place) : Type 0 where
-  pub stops : (r : Refusal) → before ≡ Place.Refused r → behind ≡ Place.Refused r
-  pub tells : (c : Cursor) → before ≡ Place.At c → Told Fact behind (section s c)
+use Rattle.reading.specs.declared.steps.Place.{Place}
+use Rattle.reading.proofs.Joining.{Reached, stopped, reached, Stepped, joined}
 
 next : {A X B : Type 0} {whole : Outcome B} {s : List ℕ} (section : A → Parser X) (g : A → X → Parser B) {Fact : A → Type 0}
     {More : X → Type 0} {before behind : Place} →

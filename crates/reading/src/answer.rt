@@ -5,15 +5,24 @@ use grammar::Span;
 use refusal::Refusal;
 
 pub struct Artifact {
+    pub header: Header,
+    pub source: Span,
+    pub blob: Span,
+    pub tops: usize,
+    pub main: Chunk,
+    pub code: Span,
+    pub positions: Span,
+    pub used: Used,
+}
+
+pub struct Header {
     pub caps: u32,
     pub low: u64,
     pub high: u64,
-    pub source: Span,
-    pub blob: Span,
-    pub code: Span,
-    pub positions: Span,
-    pub main: Chunk,
-    pub tops: usize,
+}
+
+// The places used of the thirteen tables, in their order.
+pub struct Used {
     pub names: usize,
     pub constants: usize,
     pub tokens: usize,

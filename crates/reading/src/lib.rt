@@ -1,7 +1,7 @@
-// The steps between the sections of an artifact (`read` of format/read.rs): where the reader stands behind each of them. proofs/ joins
-// thirteen steps to the definition of the whole file.
+// The reader of a whole artifact (`read` of format/read.rs): one step a section, each from where the one before it ended.
 
 pub mod answer;
+pub mod collect;
 pub mod parts;
-pub mod place;
+pub mod read;
 pub mod steps;

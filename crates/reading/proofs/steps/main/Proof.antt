@@ -1,5 +1,8 @@
 -- The section is read at its place; a refusal is handed on.
-use mathlib.Core.Path.{refl}
+use mathlib.Core.Path.{ap, refl}
+use Rattle.tables.specs.declared.Nested.{Nested}
+use Rattle.tables.specs.Table.{nestedIs}
+use Rattle.reading.specs.Places.{placeOf}
 use Rattle.reading.proofs.Stepping.{step-goes, step-stops}
 use borrow.Author.Needs.{needs}
 use Rattle.reading.proofs.steps.main.Statement.{statement}
@@ -15,10 +18,10 @@ enum-known-before-2 : tie.Need-enum-known-before-2
 enum-known-before-2 c = search needs
 
 returns : tie.Need-returns
-returns c = step-goes (c .before .before .before2 .given .1) (c .chunk .ensures)
+returns c = step-goes (ap (λ (a : Nested). placeOf (nestedIs a)) (c .before .before .before2 .given .1)) (c .chunk .ensures)
 
 returns-2 : tie.Need-returns-2
-returns-2 c = step-stops (c .before .before3 .given .1) refl
+returns-2 c = step-stops (ap (λ (a : Nested). placeOf (nestedIs a)) (c .before .before3 .given .1)) refl
 
 pub main-spec : {M : Type 1} → statement M
 main-spec =

@@ -1,7 +1,10 @@
 -- The table is cleared, and the section read into it.
 use Prim.Native.Nat.{ℕ}
-use mathlib.Core.Path.{refl}
 use lib.ListN.{length, length-replicate}
+use mathlib.Core.Path.{ap, refl}
+use Rattle.constants.specs.declared.ReadConstants.{ReadConstants}
+use Rattle.constants.specs.Kept.{readIs}
+use Rattle.reading.specs.Places.{placeOf}
 use Rattle.reading.proofs.Stepping.{step-goes, step-stops}
 use borrow.Author.Needs.{needs}
 use Rattle.reading.proofs.steps.tokens.Statement.{statement}
@@ -23,10 +26,10 @@ same-length : tie.Need-same-length
 same-length c = search needs
 
 returns : tie.Need-returns
-returns c = step-goes (c .before .before .before .before .before .before .before .before .before .before2 .given .1) (rw (c .before .before .before .before .before .before .clear .ensures, length-replicate {A = ℕ} (length (c .before .before .before .before .before .before .before .before .before .before .before .before .before .args .t .now)) 0) at (c .before .before .tokens .ensures))
+returns c = step-goes (ap (λ (a : ReadConstants). placeOf (readIs a)) (c .before .before .before .before .before .before .before .before .before .before2 .given .1)) (rw (c .before .before .before .before .before .before .clear .ensures, length-replicate {A = ℕ} (length (c .before .before .before .before .before .before .before .before .before .before .before .before .before .args .t .now)) 0) at (c .before .before .tokens .ensures))
 
 returns-2 : tie.Need-returns-2
-returns-2 c = step-stops (c .before .before3 .given .1) refl
+returns-2 c = step-stops (ap (λ (a : ReadConstants). placeOf (readIs a)) (c .before .before3 .given .1)) refl
 
 pub tokens-spec : {M : Type 1} → statement M
 tokens-spec =

@@ -1,0 +1,44 @@
+-- The table is cleared, and the section read into it.
+use Prim.Native.Nat.{ℕ}
+use lib.ListN.{length, length-replicate}
+use mathlib.Core.Path.{ap, refl}
+use Rattle.fields.specs.declared.ReadText.{ReadText}
+use Rattle.fields.specs.Answers.{textIs}
+use Rattle.reading.specs.Places.{placeOf}
+use Rattle.reading.proofs.Stepping.{step-goes, step-stops}
+use borrow.Author.Needs.{needs}
+use Rattle.reading.proofs.steps.names.Statement.{statement}
+use Rattle.reading.proofs.steps.names.Tie as tie
+
+enum-known-before : tie.Need-enum-known-before
+enum-known-before c = search needs
+
+clear-requires : tie.Need-clear-requires
+clear-requires c κs = search needs
+
+names-requires : tie.Need-names-requires
+names-requires c κs = search needs
+
+enum-known-before-2 : tie.Need-enum-known-before-2
+enum-known-before-2 c = search needs
+
+same-length : tie.Need-same-length
+same-length c = search needs
+
+returns : tie.Need-returns
+returns c = step-goes (ap (λ (a : ReadText). placeOf (textIs (c .before .before .before .before .before .before .before .before .before .before .before .before .before .args .s .now) a)) (c .before .before .before .before .before .before .before .before .before .before2 .given .1)) (rw (c .before .before .before .before .before .before .clear .ensures, length-replicate {A = ℕ} (length (c .before .before .before .before .before .before .before .before .before .before .before .before .before .args .t .now)) 0) at (c .before .before .names .ensures))
+
+returns-2 : tie.Need-returns-2
+returns-2 c = step-stops (ap (λ (a : ReadText). placeOf (textIs (c .before .before .before .before .before .args .s .now) a)) (c .before .before3 .given .1)) refl
+
+pub names-spec : {M : Type 1} → statement M
+names-spec =
+    tie.close
+    (tie.spec
+    enum-known-before
+    clear-requires
+    names-requires
+    enum-known-before-2
+    same-length
+    returns
+    returns-2)
