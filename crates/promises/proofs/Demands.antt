@@ -1,7 +1,7 @@
 -- The demands on the reader, as theorems about what `reading::read` answers and leaves.
 use Prim.Native.Nat.{ℕ, _≤_, _<_}
 use mathlib.Core.Path.{_≡_, refl, sym, _∙_, ap}
-use mathlib.Core.List.{List, _++_}
+use mathlib.Core.List.{List, [], _∷_, _++_}
 use native.Mathlib.Omega.{arith}
 use lib.ListN.{length, take}
 use Rattle.refusal.specs.declared.Refusal.{Refusal}
@@ -12,9 +12,10 @@ use Rattle.format.specs.File as definition
 use Rattle.format.proofs.Torn as torn
 use Rattle.reading.specs.declared.answer.Artifact.{Artifact}
 use Rattle.reading.specs.declared.answer.Answer.{Answer}
-use Rattle.reading.specs.Answer.{placesOf, answerOf, tablesAfter, Answered}
-use Rattle.promises.specs.Words.{Call, SameTables, RefusedWith, zeros}
+use Rattle.reading.specs.Answer.{placesOf, outside, answerOf, tablesAfter, Answered}
+use Rattle.promises.specs.Words.{Call, SameTables, RefusedWith, AcceptedAs, zeros}
 use Rattle.promises.proofs.Tables.{same-places}
+use Rattle.promises.proofs.Front.{accepted-in-front}
 
 accepted-refused : {a : Artifact} {r : Refusal} → Answer.Accepted a ≡ Answer.Refused r → ⊥
 accepted-refused e = let z : _≡_ {A = ℕ} 0 1 = cc in omega arith
@@ -38,24 +39,44 @@ refusal-clears {mask} {s} {r} call = record { answers = refl; leaves = go (defin
     go (got a last) e t = absurd (accepted-refused (sym e))
     go (refused q) e t = t
 
--- ── demand 3, its first half ──
-
--- what the definition gave where the call accepted
-record Given (o : Outcome A.Artifact) : Type 0 where
+-- what the definition gave where a call accepted
+record Given (o : Outcome A.Artifact) (a : Artifact) : Type 0 where
   what : A.Artifact
   last : Cursor
   gave : o ≡ got what last
+  tells : a ≡ outside what
 
-given : (o : Outcome A.Artifact) {a : Artifact} → Answer.Accepted a ≡ answerOf o → Given o
-given (got what last) e = record { what = what; last = last; gave = refl }
+given : (o : Outcome A.Artifact) {a : Artifact} → Answer.Accepted a ≡ answerOf o → Given o a
+given (got what last) e = record { what = what; last = last; gave = refl; tells = cc }
 given (refused r) e = absurd (accepted-refused e)
+
+-- an acceptance leaves in each of the thirteen tables the rows of what was read, and zeros behind them
+module _ (t1 t2 t3 t4 t5 t6 t7 t8 t9 t10 t11 t12 t13 : List ℕ) where
+  abbrev tables : List (List ℕ)
+  tables = t1 ∷ t2 ∷ t3 ∷ t4 ∷ t5 ∷ t6 ∷ t7 ∷ t8 ∷ t9 ∷ t10 ∷ t11 ∷ t12 ∷ t13 ∷ []
+
+  pub acceptance-fills : {mask : ℕ} {s : List ℕ} {exit : List (List ℕ)} {a : Artifact} → Answered mask s tables exit (Answer.Accepted a) →
+      AcceptedAs mask s tables exit a
+  acceptance-fills {mask} {s} {exit} {a} contract =
+      let o : Outcome A.Artifact = definition.read (placesOf tables) mask s in
+      let g : Given o a = given o (contract .result) in
+      record {
+        what = g .what;
+        last = g .last;
+        read = g .gave;
+        answers = g .tells;
+        leaves = contract .tables ∙ ap (λ (o : Outcome A.Artifact). tablesAfter o tables) (g .gave)
+            ∙ accepted-in-front t1 t2 t3 t4 t5 t6 t7 t8 t9 t10 t11 t12 t13 mask s (g .what) (g .last) (g .gave);
+      }
+
+-- ── demand 3, its first half ──
 
 -- a call whose bytes the definition refuses
 refused-by : {mask : ℕ} {s : List ℕ} {a : Answer} {r : Refusal} (call : Call mask s a) → definition.read (placesOf (call .entry)) mask s ≡ refused r → RefusedWith call r
 refused-by call e = record { answers = call .contract .result ∙ ap answerOf e; leaves = call .contract .tables ∙ rw e }
 
 module _ {mask : ℕ} {s : List ℕ} {a : Artifact} (accepting : Call mask s (Answer.Accepted a)) where
-  gives : Given (definition.read (placesOf (accepting .entry)) mask s)
+  gives : Given (definition.read (placesOf (accepting .entry)) mask s) a
   gives = given _ (accepting .contract .result)
 
   -- every shorter front, the empty one too, is refused as Truncated

@@ -1,3 +1,6 @@
 -- The demands, and the laws that they rest on.
 pub mod Tables
+pub mod Leaves
+pub mod Fits
+pub mod Front
 pub mod Demands

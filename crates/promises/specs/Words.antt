@@ -4,8 +4,14 @@ use mathlib.Core.Path.{_≡_}
 use mathlib.Core.List.{List, [], _∷_, _++_, map}
 use lib.ListN.{length, replicate}
 use Rattle.refusal.specs.declared.Refusal.{Refusal}
+use Rattle.grammar.specs.declared.Cursor.{Cursor}
+use Rattle.grammar.specs.Outcome.{got}
+use Rattle.format.specs.Artifact as A
+use Rattle.format.specs.File as definition
+use Rattle.format.specs.Rows.{tablesOf}
 use Rattle.reading.specs.declared.answer.Answer.{Answer}
-use Rattle.reading.specs.Answer.{Answered}
+use Rattle.reading.specs.declared.answer.Artifact.{Artifact}
+use Rattle.reading.specs.Answer.{placesOf, outside, Answered}
 
 -- one call of `reading::read`: what it was lent, what it answered and what it left, as its contract says
 pub record Call (mask : ℕ) (bytes : List ℕ) (answer : Answer) : Type 0 where
@@ -33,3 +39,11 @@ abbrev pub allInFront : List (List ℕ) → List (List ℕ) → List (List ℕ)
 allInFront [] words = []
 allInFront (t ∷ tables) [] = []
 allInFront (t ∷ tables) (ws ∷ words) = inFront (length t) ws ∷ allInFront tables words
+
+-- a call accepted what the definition reads: it answered what stands outside the tables, and left each table with its rows in front
+pub record AcceptedAs (mask : ℕ) (bytes : List ℕ) (entry exit : List (List ℕ)) (answer : Artifact) : Type 0 where
+  pub what : A.Artifact
+  pub last : Cursor
+  pub read : definition.read (placesOf entry) mask bytes ≡ got what last
+  pub answers : answer ≡ outside what
+  pub leaves : exit ≡ allInFront entry (tablesOf what)

@@ -78,7 +78,7 @@ told-listed {A} o row width entry exit answer left =
     counted (refused r) = refl
 
 -- records with items: as many as there are, and what their items use
-behind-all : {A S : Type 0} (next : S → A → S) (own : ℕ) (inner : S) (xs : List A) →
+pub behind-all : {A S : Type 0} (next : S → A → S) (own : ℕ) (inner : S) (xs : List A) →
     foldl (behindOne next) (record { own = own; inner = inner }) xs ≡ record { own = own + length xs; inner = foldl next inner xs }
 behind-all next own inner [] = let e : own + 0 ≡ own = omega arith in rw e
 behind-all next own inner (x ∷ xs) =
