@@ -76,7 +76,7 @@ pub record Writing (sites : List Site) (p₀ : Place) (out₀ : List ℕ) (p : P
 pub writing-none : (sites : List Site) (p : Place) (out : List ℕ) → Writing sites p out p out 0
 writing-none sites p out = record { inside = zero-le; same = refl; rest = refl }
 
-after-same : (p : Place) (site : Site) (out : List ℕ) → length (bytesAfter p site out) ≡ length out
+pub after-same : (p : Place) (site : Site) (out : List ℕ) → length (bytesAfter p site out) ≡ length out
 unfolding bytesAfter
 after-same p site out = go (Rattle.pos.specs.Passes.writes p site (length out))
   where

@@ -5,3 +5,4 @@ pub mod Encode
 pub mod Steps
 pub mod Skim
 pub mod Passes
+pub mod Stages

@@ -15,6 +15,7 @@ use varint::ReadIndex;
 mod encoding;
 mod reading;
 mod skim;
+mod stages;
 
 // A place in a source file, and the address that it is recorded for.
 pub struct Site {
@@ -199,4 +200,14 @@ pub fn encode(addresses: &[u32], lines: &[u32], columns: &[u32], out: &mut [u8])
         }
         Encoded::Refused(r) => Encoded::Refused(r),
     }
+}
+
+// The same of the sites that a slice holds. Whoever calls it is proved by a walk too, as for any slice of records:
+// `encode` says the same over three slices of numbers, and its callers need none.
+pub fn encode_sites(sites: &[Site], out: &mut [u8]) -> Encoded
+    ensures { λ r. ⌜ (r ≡ encoded (now (sites .entry)) (length (now (out .entry)))) × (now (out .exit) ≡ encodedBytes (now (sites .entry)) (now (out .entry))) ⌝ }
+{
+    let measured = stages::pass(sites, stages::begun(), out);
+    let ready = stages::opened(sites.len(), measured, out);
+    stages::answer(stages::pass(sites, ready, out))
 }
