@@ -110,18 +110,21 @@ mid-above a b d h ha hd = go (ltb b 128) refl
 told : {s : List ℕ} {c : Cursor} {step line column size : ℕ} → Whole s c step line column size → Entry s c step size
 told {line = line} {column} w = record { line = line; column = column; whole = w }
 
--- an entry of single bytes, and one whose line has two
+-- an entry of single bytes, and one whose line has two, or three
 module _ (s : List ℕ) (c : Cursor) where
   abbrev byte : ℕ → ℕ
   byte k = getD s (c .at + k) 0
 
-  pub plain-three : c .at + 2 < length s → bitOr (bitOr (getD s (c .at) 0) (byte 1)) (byte 2) < 128 → Entry s c (getD s (c .at) 0) 3
-  plain-three h low =
-      told
+  pub whole-three : c .at + 2 < length s → bitOr (bitOr (getD s (c .at) 0) (byte 1)) (byte 2) < 128 →
+      Whole s c (getD s (c .at) 0) (byte 1) (byte 2) 3
+  whole-three h low =
       (three-is s c (getD s (c .at) 0) (byte 1) (byte 2) 1 1 1
       (field-one s c (omega arith) (low-one (getD s (c .at) 0) (byte 1) (byte 2) low))
       (field-one s (advanced c 1) (omega arith) (low-two (getD s (c .at) 0) (byte 1) (byte 2) low))
       (rw (add-assoc (c .at) 1 1) (field-one s (advanced c 2) (omega arith) (low-three (getD s (c .at) 0) (byte 1) (byte 2) low))))
+
+  pub plain-three : c .at + 2 < length s → bitOr (bitOr (getD s (c .at) 0) (byte 1)) (byte 2) < 128 → Entry s c (getD s (c .at) 0) 3
+  plain-three h low = told (whole-three h low)
 
   pub plain-four : c .at + 3 < length s → 128 ≤ bitOr (bitOr (getD s (c .at) 0) (byte 1)) (byte 2) → byte 1 < 256 →
       bitOr (bitOr (getD s (c .at) 0) (byte 2)) (byte 3) < 128 → Entry s c (getD s (c .at) 0) 4
@@ -135,12 +138,30 @@ module _ (s : List ℕ) (c : Cursor) where
       same : getD s (c .at + 1 + 1) 0 ≡ byte 2
       same = ap (λ (n : ℕ). getD s n 0) (add-assoc (c .at) 1 1)
 
+  pub plain-five : c .at + 4 < length s → bitOr (bitOr (getD s (c .at) 0) (byte 3)) (byte 4) < 128 → 128 ≤ bitAnd (byte 1) (byte 2) →
+      byte 1 < 256 → byte 2 < 256 → Entry s c (getD s (c .at) 0) 5
+  plain-five h low high wide₁ wide₂ =
+      told
+      (three-is s c (getD s (c .at) 0) (byte 1 - 128 + (byte 2 - 128) * 128 + byte 3 * 16384) (byte 4) 1 3 1
+      (field-one s c (omega arith) (low-one (getD s (c .at) 0) (byte 3) (byte 4) low))
+      (rw (behind 1, behind 2) at
+      (field-three s (advanced c 1) (omega arith) (omega (arith, and-le-l (byte 1) (byte 2), high)) wide₁
+      (rw (behind 1) (omega (arith, and-le-r (byte 1) (byte 2), high))) (rw (behind 1) wide₂) (rw (behind 2) (low-two (getD s (c .at) 0) (byte 3) (byte 4) low))))
+      (rw (add-assoc (c .at) 1 3) (field-one s (advanced c 4) (omega arith) (low-three (getD s (c .at) 0) (byte 3) (byte 4) low))))
+    where
+      behind : (k : ℕ) → getD s (c .at + 1 + k) 0 ≡ getD s (c .at + (1 + k)) 0
+      behind k = ap (λ (n : ℕ). getD s n 0) (add-assoc (c .at) 1 k)
+
 -- what a number or an entry that is read says of its answer
 pub number-is : {s : List ℕ} {c : Cursor} {v : ℕ} (n : ℕ) → c .at + n ≤ length s → field s c ≡ got v (advanced c n) → NumberAt s c (record { value = v; size = n })
 number-is n h e = record { inside = omega arith; reads = λ _. e }
 
 pub entry-is : {s : List ℕ} {c : Cursor} {v : ℕ} (n : ℕ) → c .at + n ≤ length s → Entry s c v n → EntryAt s c (record { value = v; size = n })
 entry-is n h e = record { inside = omega arith; reads = λ _. e }
+
+pub site-is : {s : List ℕ} {c : Cursor} {step line column : ℕ} (n : ℕ) → c .at + n ≤ length s → Whole s c step line column n →
+    SiteAt s c (record { step = step; line = line; column = column; size = n })
+site-is n h e = record { inside = omega arith; reads = λ _. e }
 
 pub three-found : {s : List ℕ} {c c₂ c₃ : Cursor} {step line column : Short} →
     NumberAt s c step → NumberAt s c₂ line → NumberAt s c₃ column →

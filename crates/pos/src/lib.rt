@@ -65,7 +65,7 @@ fn seek(table: &[u8], asked: u32, from: Walk) -> Resolved
     ensures { λ r. ⌜ r ≡ sought (now (table .entry)) asked from ⌝ }
 {
     if 0 < from.left {
-        let e = skim::three(table, from.c);
+        let e = skim::site(table, from.c);
         if 0 < e.size {
             if from.address as u64 + e.step as u64 == asked as u64 {
                 return site_for(

@@ -92,7 +92,7 @@ pub fn number(table: &[u8], c: Cursor) -> Short
 }
 
 // An entry of three short numbers.
-pub fn three(table: &[u8], c: Cursor) -> ShortSite
+fn three(table: &[u8], c: Cursor) -> ShortSite
     ensures { λ r. ⌜ SiteAt (now (table .entry)) c r ⌝ }
 {
     let step = number(table, c);
@@ -115,6 +115,31 @@ pub fn three(table: &[u8], c: Cursor) -> ShortSite
         column: column.value,
         size: step.size + line.size + column.size,
     }
+}
+
+// An entry of single bytes by one test of the bytes left, or else a number at a time.
+pub fn site(table: &[u8], c: Cursor) -> ShortSite
+    ensures { λ r. ⌜ SiteAt (now (table .entry)) c r ⌝ }
+{
+    let at = c.at;
+    if table.len() <= at {
+        return no_site();
+    }
+    let left = table.len() - at;
+    if 2 < left {
+        let step = table[at];
+        let line = table[at + 1];
+        let column = table[at + 2];
+        if step | line | column < 128 {
+            return ShortSite {
+                step: wide(step),
+                line: wide(line),
+                column: wide(column),
+                size: 3,
+            };
+        }
+    }
+    three(table, c)
 }
 
 fn no_site() -> ShortSite
@@ -156,6 +181,29 @@ fn short_entry(table: &[u8], c: Cursor) -> Short
             value: wide(step),
             size: 4,
         };
+    }
+    wider_entry(table, c)
+}
+
+// The same where the line has three bytes, or else a number at a time.
+fn wider_entry(table: &[u8], c: Cursor) -> Short
+    ensures { λ r. ⌜ EntryAt (now (table .entry)) c r ⌝ }
+{
+    let at = c.at;
+    if table.len() <= at {
+        return long();
+    }
+    let left = table.len() - at;
+    if 4 < left {
+        let step = table[at];
+        if step | table[at + 3] | table[at + 4] < 128 {
+            if 128 <= table[at + 1] & table[at + 2] {
+                return Short {
+                    value: wide(step),
+                    size: 5,
+                };
+            }
+        }
     }
     let e = three(table, c);
     Short {

@@ -5,8 +5,8 @@ use borrow.Author.Needs.{needs}
 use Rattle.pos.proofs.seek.Statement.{statement}
 use Rattle.pos.proofs.seek.Tie as tie
 
-three-requires : tie.Need-three-requires
-three-requires c κs = search needs
+site-requires : tie.Need-site-requires
+site-requires c κs = search needs
 
 cast-if3 : tie.Need-cast-if3
 cast-if3 c = search needs
@@ -21,7 +21,7 @@ site-for-requires : tie.Need-site-for-requires
 site-for-requires c κs = search needs
 
 returns : tie.Need-returns
-returns c = c .site-for .ensures ∙ sym (seek-hit _ _ (c .before .before .before .before .before .before .before .before .before .before .args .from) (c .before .before .before .before .before .before .three .ensures) (c .before .before .before .before .before .before .before .if1 .taken) (c .before .before .before .before .if2 .taken) (c .before .if3 .taken) (c .before .before .before .before .before .before .before .before .before .before .fits .asked .fits))
+returns c = c .site-for .ensures ∙ sym (seek-hit _ _ (c .before .before .before .before .before .before .before .before .before .before .args .from) (c .before .before .before .before .before .before .site .ensures) (c .before .before .before .before .before .before .before .if1 .taken) (c .before .before .before .before .if2 .taken) (c .before .if3 .taken) (c .before .before .before .before .before .before .before .before .before .before .fits .asked .fits))
 
 seek-on-requires : tie.Need-seek-on-requires
 seek-on-requires c κs = search needs
@@ -33,7 +33,7 @@ pub seek-spec : {M : Type 1} → statement M
 seek-spec =
     tie.close
     (tie.spec
-    three-requires
+    site-requires
     cast-if3
     cast-if3-2
     add-if3

@@ -1,7 +1,7 @@
 -- One test of the bytes left, then of the bytes themselves.
 use Prim.Native.Nat.{_+_}
 use native.Mathlib.Omega.{arith}
-use Rattle.pos.proofs.Shorts.{long-entry, entry-is, plain-three, plain-four, told-at}
+use Rattle.pos.proofs.Shorts.{long-entry, entry-is, plain-three, plain-four}
 use borrow.Author.Needs.{needs}
 use Rattle.pos.proofs.skim.short_entry.Statement.{statement}
 use Rattle.pos.proofs.skim.short_entry.Tie as tie
@@ -66,11 +66,11 @@ wide-requires-2 c κs = search needs
 returns-5 : tie.Need-returns-5
 returns-5 c = rw (c .wide2 .ensures) (entry-is 4 (omega arith) (plain-four _ _ (omega arith) (c .before .before .before .before .before .if3 .left) (c .before .before .before .before .before .before .before .before .before .before .before .shared-slice-known .given (c .before .before .before .before .before .before .before .before .before .before .before .before .args .c .at + 1) .fits) (c .before .if5 .taken)))
 
-three-requires : tie.Need-three-requires
-three-requires c κs = search needs
+wider-entry-requires : tie.Need-wider-entry-requires
+wider-entry-requires c κs = search needs
 
 returns-6 : tie.Need-returns-6
-returns-6 c = told-at (c .three .ensures)
+returns-6 c = c .wider-entry .ensures
 
 pub short-entry-spec : {M : Type 1} → statement M
 short-entry-spec =
@@ -96,5 +96,5 @@ short-entry-spec =
     shared-slice-read-if5-2
     wide-requires-2
     returns-5
-    three-requires
+    wider-entry-requires
     returns-6)
