@@ -1,5 +1,4 @@
-//! The original, as it is, with its answers in document 01's terms; and what the programs share.
-extern crate alloc;
-
+//! What the original answers, in document 01's terms; what the two are tried on; and what the programs share.
 pub mod inputs;
 pub mod original;
+pub mod refusals;

@@ -1,4 +1,7 @@
 //! What the two are tried on. The random part has a fixed seed, so that every run tries the same.
+pub mod bytes;
+pub mod sites;
+pub mod tables;
 
 /// A xorshift generator: numbers that look random, the same in each run.
 pub struct Random(u64);
@@ -21,7 +24,12 @@ impl Random {
 
     /// A number of a random width, from 0 to 64 bits.
     pub fn any_width(&mut self) -> u64 {
-        let bits = self.below(65) as u32;
+        self.width(64)
+    }
+
+    /// A number of a random width, from 0 to `most` bits.
+    pub fn width(&mut self, most: u64) -> u64 {
+        let bits = self.below(most + 1) as u32;
         self.next().checked_shr(64 - bits).unwrap_or(0)
     }
 }

@@ -1,14 +1,10 @@
-//! The two measured in one run, on the same input, by the same loop, through a call that is not inlined.
-//!
-//! Each table row is the best of many runs, which alternate between the two. It is a measurement, and no test.
-use crate::ours;
-use beside::inputs::{mixed_text, Random};
-use beside::original::{self, varint};
+//! Reads and `put`, an item being a number.
+use super::{best, row, SIZE};
+use crate::ours::numbers as ours;
+use beside::inputs::Random;
+use beside::original;
+use rhai_grain::grain::pos::varint;
 use std::hint::black_box;
-use std::time::{Duration, Instant};
-
-const SIZE: usize = 1_000_000;
-const RUNS: usize = 200;
 
 /// The original behind the signatures of libbeside.a.
 mod theirs {
@@ -58,11 +54,6 @@ mod theirs {
         *size = vector.len() - before;
         0
     }
-
-    #[inline(never)]
-    pub unsafe extern "C" fn utf8(bytes: *const u8, len: usize) -> bool {
-        core::str::from_utf8(std::slice::from_raw_parts(bytes, len)).is_ok()
-    }
 }
 
 /// All numbers of `bytes`, one after the other; answers their sum.
@@ -103,26 +94,6 @@ fn put_all(f: ours::Put, out: *mut u8, room: usize, moves: usize, values: &[u64]
     at as u64
 }
 
-/// The best of many runs of each, taken in turn: first the original's, then ours.
-fn best(mut theirs: impl FnMut() -> u64, mut ours: impl FnMut() -> u64) -> [Duration; 2] {
-    let mut least = [Duration::MAX; 2];
-    for _ in 0..RUNS {
-        let sums = [0, 1].map(|side| {
-            let start = Instant::now();
-            let sum = black_box(if side == 0 { theirs() } else { ours() });
-            least[side] = least[side].min(start.elapsed());
-            sum
-        });
-        assert_eq!(sums[0], sums[1], "the two read or wrote different things");
-    }
-    least
-}
-
-fn row(what: &str, items: usize, least: [Duration; 2]) {
-    let [theirs, ours] = least.map(|t| t.as_secs_f64() * 1e9 / items as f64);
-    println!("| {what:<38} | {theirs:>8.3} | {ours:>8.3} | {:>6.2} |", theirs / ours);
-}
-
 /// Numbers until their shortest forms take `SIZE` bytes, and those forms.
 fn numbers(mut next: impl FnMut() -> u64) -> (Vec<u64>, Vec<u8>) {
     let (mut values, mut bytes) = (Vec::new(), Vec::new());
@@ -154,12 +125,6 @@ fn put(what: &str, values: &[u64], size: usize) {
     assert_eq!(vector, lent);
 }
 
-fn text(what: &str, bytes: &[u8]) {
-    let (theirs, ours): (ours::Test, ours::Test) = (black_box(theirs::utf8), black_box(ours::beside_utf8));
-    let run = |f: ours::Test| unsafe { u64::from(f(bytes.as_ptr(), bytes.len())) };
-    row(what, bytes.len(), best(|| run(theirs), || run(ours)));
-}
-
 pub fn all() {
     let mut random = Random::new(5);
     let short = numbers(|| random.below(128));
@@ -170,12 +135,7 @@ pub fn all() {
     // The index's mix is of numbers that fit one.
     let mut random = Random::new(8);
     let narrow = numbers(|| if random.below(10) < 9 { random.below(128) } else { random.any_width() >> 32 });
-    let mut random = Random::new(9);
-    let ascii: Vec<u8> = (0..SIZE).map(|_| 0x20 + random.below(0x5f) as u8).collect();
-    let mixed = mixed_text(SIZE, &mut random).into_bytes();
 
-    println!("| {:<38} | {:>8} | {:>8} | {:>6} |", "nanoseconds an item, best of runs", "Rust", "ours", "ratio");
-    println!("|{:-<40}|{:->10}|{:->10}|{:->8}|", "", ":", ":", ":");
     unsigned("number, one byte each", short.0.len(), &short.1, theirs::number, ours::beside_number);
     unsigned("number, nine in ten one byte", mix.0.len(), &mix.1, theirs::number, ours::beside_number);
     unsigned("number, nine and ten bytes", long.0.len(), &long.1, theirs::number, ours::beside_number);
@@ -185,6 +145,4 @@ pub fn all() {
     row("signed, nine in ten one byte", mix.0.len(), best(|| read_signed(f, &mix.1), || read_signed(g, &mix.1)));
     put("put, nine in ten one byte", &mix.0, mix.1.len());
     put("put, nine and ten bytes", &long.0, long.1.len());
-    text("UTF-8 of ASCII, a byte", &ascii);
-    text("UTF-8 of mixed text, a byte", &mixed);
 }

@@ -1,20 +1,12 @@
-//! What the original answers, in the terms of document 01: the value and the next place, or a refusal's number.
+//! Numbers: the value and the next place, or a refusal's number.
 //!
 //! Three things differ between the two, and are brought together here:
 //! - The original moves its place before it refuses, and document 01 leaves the place where it stood. So a refused read is
 //!   compared by its refusal alone, and the next place only where the read succeeds.
 //! - Its `Overflow` is document 01's MalformedVarint in the file.
 //! - It has no read of 16 bits. The one here is its 64-bit read and then `u16::try_from`, as its caller does.
-mod source {
-    #![allow(dead_code)]
-    include!(concat!(env!("OUT_DIR"), "/original.rs"));
-}
-pub use source::varint;
-use varint::Error;
-
-pub const TRUNCATED: u64 = 2;
-pub const MALFORMED: u64 = 6;
-pub const NO_ROOM: u64 = 16;
+use crate::refusals::{MALFORMED, TRUNCATED};
+use rhai_grain::grain::pos::varint::{self, Error};
 
 /// The value and the next place, or the refusal's number.
 pub type Read<T> = Result<(T, usize), u64>;

@@ -1,8 +1,9 @@
-//! Each comparison prints one line; the first difference is printed with its input, and ends the run with status 1.
-use crate::ours;
-use beside::inputs::{boundaries, every_byte, mixed_text, strings, Random, TEXT_EDGES};
-use beside::original::{self, NO_ROOM};
-use std::fmt::Debug;
+//! Reads, `put` and zigzag.
+use super::{report, same};
+use crate::ours::numbers as ours;
+use beside::inputs::{boundaries, every_byte, strings, Random};
+use beside::original;
+use beside::refusals::NO_ROOM;
 
 pub fn all() {
     short_strings();
@@ -11,22 +12,6 @@ pub fn all() {
     places();
     puts();
     zigzags();
-    short_texts();
-    edge_texts();
-    long_texts();
-    println!("no difference");
-}
-
-fn report(what: &str, inputs: u64, answers: u64) {
-    println!("{what}: {inputs} inputs, {answers} answers agree");
-}
-
-/// What it is of, and its input, where the two differ.
-fn same<T: PartialEq + Debug>(what: &str, input: impl Debug, original: T, ours: T) {
-    if original != ours {
-        println!("{what} of {input:02x?}: the original has {original:02x?}, ours {ours:02x?}");
-        std::process::exit(1);
-    }
 }
 
 /// The four reads at one place.
@@ -139,51 +124,4 @@ fn zigzags() {
     }
     let count = values.len() as u64;
     report("zigzag both ways", count, 7 * count);
-}
-
-fn text(s: &[u8]) {
-    same("UTF-8", s, core::str::from_utf8(s).is_ok(), ours::is_utf8(s));
-}
-
-fn short_texts() {
-    let alphabet = every_byte();
-    let mut count = 0;
-    for n in 0..=3 {
-        strings(n, &alphabet, |s| {
-            text(s);
-            count += 1;
-        });
-    }
-    report("UTF-8 of every string of up to 3 bytes", count, count);
-}
-
-fn edge_texts() {
-    let mut count = 0;
-    strings(4, &TEXT_EDGES, |s| {
-        text(s);
-        count += 1;
-    });
-    report("UTF-8 of every string of 4 bytes at the edges", count, count);
-}
-
-/// Longer ones, as they are, cut, and with a byte changed: text passes in blocks, which short strings do not reach.
-fn long_texts() {
-    let mut random = Random::new(4);
-    let (count, mut answers) = (100_000, 0);
-    for _ in 0..count {
-        let size = random.below(300) as usize;
-        let mut s = vec![b'a'; random.below(200) as usize];
-        s.extend_from_slice(mixed_text(size, &mut random).as_bytes());
-        text(&s);
-        s.truncate(random.below(s.len() as u64 + 1) as usize);
-        text(&s);
-        if !s.is_empty() {
-            let k = random.below(s.len() as u64) as usize;
-            s[k] = random.next() as u8;
-            text(&s);
-            answers += 1;
-        }
-        answers += 2;
-    }
-    report("UTF-8 of texts of up to some 500 bytes, whole, cut and changed", count, answers);
 }

@@ -1,4 +1,4 @@
-//! The functions of libbeside.a, which Rattle proved. A slice is two words in C, where it stands and how long it is.
+//! Numbers and UTF-8.
 use beside::original::Read;
 
 pub type ReadUnsigned = unsafe extern "C" fn(*const u8, usize, usize, *mut [u64; 2]) -> u64;
