@@ -2,6 +2,7 @@
 //!
 //! Each table row is the best of many runs, which alternate between the two. It is a measurement, and no test.
 mod numbers;
+mod positions;
 mod text;
 
 use std::hint::black_box;
@@ -36,4 +37,5 @@ pub fn all() {
     println!("|{:-<40}|{:->12}|{:->12}|{:->8}|", "", ":", ":", ":");
     numbers::all();
     text::all();
+    positions::all();
 }
