@@ -3,7 +3,7 @@ use super::{best, row, SIZE};
 use crate::ours::numbers as ours;
 use beside::inputs::Random;
 use beside::original;
-use rhai_grain::grain::pos::varint;
+use rhai_grain::pos::varint;
 use std::hint::black_box;
 
 /// The original behind the signatures of libbeside.a.

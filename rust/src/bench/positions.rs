@@ -12,7 +12,7 @@ const ENTRIES: usize = 50_000;
 /// The original behind our signatures.
 mod theirs {
     use beside::original;
-    use rhai_grain::grain::pos::{self, Site};
+    use rhai_grain::pos::{self, Site};
     use std::slice::from_raw_parts;
 
     #[inline(never)]

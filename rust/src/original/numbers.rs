@@ -6,7 +6,7 @@
 //! - Its `Overflow` is document 01's MalformedVarint in the file.
 //! - It has no read of 16 bits. The one here is its 64-bit read and then `u16::try_from`, as its caller does.
 use crate::refusals::{MALFORMED, TRUNCATED};
-use rhai_grain::grain::pos::varint::{self, Error};
+use rhai_grain::pos::varint::{self, Error};
 
 /// The value and the next place, or the refusal's number.
 pub type Read<T> = Result<(T, usize), u64>;

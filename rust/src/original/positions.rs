@@ -1,9 +1,9 @@
 //! Position tables: a row of document 01's table of refusals, or what was asked for.
 use crate::refusals::{Row, POSITIONS};
-use rhai_grain::grain::pos::{self, Error, Site};
+use rhai_grain::pos::{self, Error, Site};
 use std::panic::{catch_unwind, AssertUnwindSafe};
 
-fn refused(why: Error) -> Row {
+pub fn refused(why: Error) -> Row {
     match why {
         Error::Truncated => [POSITIONS, 1, 0],
         Error::Overflow => [POSITIONS, 2, 0],
