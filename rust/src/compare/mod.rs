@@ -1,4 +1,5 @@
 //! Each comparison prints one line; the first difference is printed with its input, and ends the run with status 1.
+mod artifacts;
 mod debug_id;
 mod encode;
 mod numbers;
@@ -13,6 +14,7 @@ pub fn all() {
     positions::all();
     encode::all();
     debug_id::all();
+    artifacts::all();
     println!("no difference");
 }
 

@@ -1,4 +1,5 @@
 //! What the two are tried on. The random part has a fixed seed, so that every run tries the same.
+pub mod artifacts;
 pub mod bytes;
 pub mod sites;
 pub mod tables;

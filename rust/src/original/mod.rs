@@ -1,4 +1,5 @@
 //! What the original answers, in the terms of document 01.
+pub mod artifact;
 mod numbers;
 mod positions;
 

@@ -1,0 +1,54 @@
+//! The original's reader: what it read, in the words of the thirteen tables, or a row of document 01's refusals.
+mod constants;
+mod refused;
+mod rows;
+
+use crate::artifact::Answer;
+use crate::refusals::{LONGEST, TOO_LONG};
+use rhai_grain::grain::format::AbiMismatch;
+use rhai_grain::{settings, Program, ReadError};
+use std::ops::Range;
+
+/// The step flags that the original knows.
+pub const OWN_MASK: u8 = 0x01;
+
+/// The caps stand at a fixed place.
+const CAPS: Range<usize> = 8..12;
+
+/// What document 01 takes for the answer. Where the original refuses by a rule that document 01 leaves behind, that rule is
+/// passed by: the walk over the code is off, and missing caps are made none.
+pub fn read(bytes: &[u8], mask: u8) -> Answer {
+    if bytes.len() > LONGEST {
+        return Answer::refused([TOO_LONG, bytes.len() as u64, 0]);
+    }
+    settings::know_flags((mask != OWN_MASK).then_some(mask));
+    settings::walk_code(false);
+    match Program::read(bytes) {
+        Err(ReadError::Abi(AbiMismatch::MissingCaps { .. })) => without_caps(bytes),
+        read => answer(bytes, read),
+    }
+}
+
+/// As the original has it, with its own mask, caps and walk over the code.
+pub fn read_by_all_rules(bytes: &[u8]) -> Result<(), ReadError> {
+    settings::know_flags(None);
+    settings::walk_code(true);
+    Program::read(bytes).map(|_| ())
+}
+
+fn without_caps(bytes: &[u8]) -> Answer {
+    let mut plain = bytes.to_vec();
+    plain[CAPS].fill(0);
+    let mut answer = answer(&plain, Program::read(&plain));
+    if answer.words[0] == 0 {
+        answer.words[3] = u64::from(u32::from_le_bytes(bytes[CAPS].try_into().unwrap()));
+    }
+    answer
+}
+
+fn answer(bytes: &[u8], read: Result<Program<'_>, ReadError>) -> Answer {
+    match read {
+        Ok(program) => Answer::accepted(rows::outside(bytes, &program), rows::tables(bytes, &program)),
+        Err(why) => Answer::refused(refused::row(bytes, &why)),
+    }
+}
