@@ -58,14 +58,8 @@ fn behind(n: usize, byte: u8, last: &[u8]) -> Vec<u8> {
     s
 }
 
-fn main() {
-    let Some(folder) = std::env::args().nth(1) else {
-        eprintln!("usage: sample FOLDER");
-        std::process::exit(2);
-    };
-    let mut sample = Sample::default();
-
-    // Document 01's own, and what stands about the ninth, tenth and eleventh byte.
+/// Document 01's own, and what stands about the ninth, tenth and eleventh byte.
+fn forms(sample: &mut Sample) {
     sample.reads(&[]);
     sample.reads(&[0x80, 0x00]);
     sample.reads(&[0x01]);
@@ -80,7 +74,10 @@ fn main() {
             sample.reads(&behind(10, byte, &[last]));
         }
     }
-    // The widest that fit 16 and 32 bits, one more, and the same in a longer form.
+}
+
+/// The widest that fit 16 and 32 bits, one more, and the same in a longer form.
+fn values(sample: &mut Sample) {
     for value in [0x7f, 0x80, 0x3fff, 0x4000, 0xffff, 0x1_0000, 0xffff_ffff, 0x1_0000_0000, 1 << 63, u64::MAX] {
         let form = original::put(value);
         sample.reads(&form);
@@ -95,8 +92,10 @@ fn main() {
     for value in boundaries().into_iter().step_by(5) {
         sample.put(value);
     }
+}
 
-    // Each length, the edges of each range, overlong forms, halves of pairs, past the last scalar, and cut ones.
+/// Each length, the edges of each range, overlong forms, halves of pairs, past the last scalar, and cut ones.
+fn texts(sample: &mut Sample) {
     for s in ["", "a", "\u{7f}", "\u{80}", "\u{7ff}", "\u{800}", "\u{ffff}", "\u{d7ff}", "\u{e000}", "\u{10000}", "\u{10ffff}", "a\u{e9}\u{20ac}\u{1f600}z"] {
         let s = s.as_bytes();
         sample.text(s);
@@ -116,11 +115,25 @@ fn main() {
     sample.text(&[b'x'; 64]);
     sample.text(&behind(62, b'x', &[0xc3, 0xa9]));
     sample.text(&behind(63, b'x', &[0xc3]));
+}
 
-    // No case at all: the only answers here that are not the original's.
+/// No case at all: the only answers here that are not the original's.
+fn no_cases(sample: &mut Sample) {
     for (word, given) in [("number", "8"), ("number", "0x"), ("put", "18446744073709551616"), ("put", ""), ("length", "00")] {
         sample.add(word, given, "bad line");
     }
+}
+
+fn main() {
+    let Some(folder) = std::env::args().nth(1) else {
+        eprintln!("usage: sample FOLDER");
+        std::process::exit(2);
+    };
+    let mut sample = Sample::default();
+    forms(&mut sample);
+    values(&mut sample);
+    texts(&mut sample);
+    no_cases(&mut sample);
 
     let folder = Path::new(&folder);
     fs::write(folder.join("stdin"), &sample.cases).unwrap();
