@@ -1,20 +1,21 @@
-//! Where the original differs on purpose: its refusal is shown, and the other answer is document 01's.
+//! Where the original differs on purpose: what it does is shown, and the other answer is document 01's.
 use super::inputs::long;
 use super::{same, tried, Met, MASK};
-use beside::inputs::artifacts::least_with;
-use beside::original::artifact as original;
+use beside::inputs::artifacts::limits::CODE;
+use beside::inputs::artifacts::{artifact, least_with};
+use beside::inputs::bytes::damage;
+use beside::inputs::Random;
+use beside::original::artifact::{read, read_by_all_rules, LeftBehind};
 use beside::refusals::LONGEST;
-use rhai_grain::grain::bytecode::TableError;
-use rhai_grain::grain::format::AbiMismatch;
-use rhai_grain::ReadError;
 
 pub fn all() {
     let mut met = Met::default();
     caps(&mut met);
     walk(&mut met);
+    same("files that document 01 accepts", "rules left behind", met.inputs, met.accepted);
+    met.report("artifacts about the rules left behind", (0, 0));
     length();
-    same("files that document 01 accepts", "differences", met.inputs, met.accepted);
-    met.report("artifacts that the original refuses by rules left behind", (0, 0));
+    all_rules();
 }
 
 /// Caps that the original's build lacks, or does not know.
@@ -22,21 +23,49 @@ fn caps(met: &mut Met) {
     for bit in (0..32).filter(|bit| 0x0100_ffef_u32 >> bit & 1 == 0) {
         let mut file = least_with(0, b"\0");
         file[8..12].copy_from_slice(&(1u32 << bit).to_le_bytes());
-        let refused = matches!(original::read_by_all_rules(&file), Err(ReadError::Abi(AbiMismatch::MissingCaps { .. })));
-        same("refusal by caps", &file, true, refused);
+        same("refusal by caps", &file, Err(LeftBehind::Caps), read_by_all_rules(&file));
         tried(&file, MASK, met);
     }
 }
 
-/// A position table with an entry that names no instruction: there is no code.
+/// An entry that names no instruction, since there is no code, and one of line 0 at an instruction. An entry with a line at that
+/// instruction is what the original accepts.
 fn walk(met: &mut Met) {
-    let file = least_with(11, b"\x04\x01\x00\x01\x01");
-    let refused = matches!(original::read_by_all_rules(&file), Err(ReadError::Positions(TableError::PastTheEnd { .. })));
-    same("refusal by the walk over the code", &file, true, refused);
+    let with = |table: &[u8]| {
+        let mut file = least_with(CODE, b"\x01\x02");
+        file.pop();
+        [file, table.to_vec()].concat()
+    };
+    for file in [least_with(11, b"\x04\x01\x00\x01\x01"), with(b"\x04\x01\x00\x00\x00")] {
+        same("refusal by the walk over the code", &file, Err(LeftBehind::Walk), read_by_all_rules(&file));
+        tried(&file, MASK, met);
+    }
+    let file = with(b"\x04\x01\x00\x01\x01");
+    same("an entry at an instruction", &file, Ok(read(&file, MASK)), read_by_all_rules(&file));
     tried(&file, MASK, met);
 }
 
 /// That a longer file is TooLong here is tried with the limits.
 fn length() {
-    same("a file above the limit", LONGEST + 1, Ok(()), original::read_by_all_rules(&long(LONGEST + 1)));
+    let read = read_by_all_rules(&long(LONGEST + 1)).map(|answer| answer.row());
+    same("a file above the limit", LONGEST + 1, Ok([0; 3]), read);
+}
+
+/// Where neither of the two rules refuses a file, passing them by changes nothing.
+fn all_rules() {
+    let mut random = Random::new(19);
+    let (mut alike, mut by_caps, mut by_walk) = (0u64, 0u64, 0u64);
+    for seed in 0..60_000 {
+        let mut file = artifact(seed % 20_000, None).0;
+        (0..seed / 20_000).for_each(|_| damage(&mut file, &mut random));
+        match read_by_all_rules(&file) {
+            Ok(answer) => {
+                same("an artifact by all the original's rules", &file, answer, read(&file, MASK));
+                alike += 1;
+            }
+            Err(LeftBehind::Caps) => by_caps += 1,
+            Err(LeftBehind::Walk) => by_walk += 1,
+        }
+    }
+    println!("artifacts by all the original's rules: {alike} inputs agree, {by_caps} refused by caps, {by_walk} by the walk over the code");
 }

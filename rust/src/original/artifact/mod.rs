@@ -5,6 +5,7 @@ mod rows;
 
 use crate::artifact::Answer;
 use crate::refusals::{LONGEST, TOO_LONG};
+use rhai_grain::grain::bytecode::TableError;
 use rhai_grain::grain::format::AbiMismatch;
 use rhai_grain::{settings, Program, ReadError};
 use std::ops::Range;
@@ -29,11 +30,22 @@ pub fn read(bytes: &[u8], mask: u8) -> Answer {
     }
 }
 
-/// As the original has it, with its own mask, caps and walk over the code.
-pub fn read_by_all_rules(bytes: &[u8]) -> Result<(), ReadError> {
+/// A rule that document 01 leaves behind, and that `read` passes by.
+#[derive(Debug, Clone, Copy, PartialEq)]
+pub enum LeftBehind {
+    Caps,
+    Walk,
+}
+
+/// As the original has it, with its own mask, caps and walk over the code, unless one of the last two refuses the file.
+pub fn read_by_all_rules(bytes: &[u8]) -> Result<Answer, LeftBehind> {
     settings::know_flags(None);
     settings::walk_code(true);
-    Program::read(bytes).map(|_| ())
+    match Program::read(bytes) {
+        Err(ReadError::Abi(AbiMismatch::MissingCaps { .. })) => Err(LeftBehind::Caps),
+        Err(ReadError::Positions(TableError::PastTheEnd { .. })) => Err(LeftBehind::Walk),
+        read => Ok(answer(bytes, read)),
+    }
 }
 
 fn without_caps(bytes: &[u8]) -> Answer {
