@@ -60,6 +60,7 @@ fn damaged(met: &mut Met) {
             tried(&s, mask, met);
             s[at] = random.next() as u8;
             tried(&s, mask, met);
+            s[at] = whole[at];
             s.insert(at, random.below(4) as u8);
             tried(&s, mask, met);
             s.drain(at..at + 2);
