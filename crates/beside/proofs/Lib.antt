@@ -1,2 +1,2 @@
--- What the proofs of the exported reads share.
-pub mod Told
+-- What the proofs of the exported functions share.
+pub mod Putting

@@ -1,3 +1,2 @@
 -- What the exported functions answer and leave.
 pub mod Beside
-pub mod Positions

@@ -1,76 +1,34 @@
-// The numbers and the text test as C functions, for rust/ to hold beside the Rust original.
+// What rust/ holds beside the Rust original, as C functions: the numbers that the face (the crate `grain`) has no need of.
 //
 // A read answers 0, or the refusal's number in document 01's table, and leaves what it read in the places lent to it: where
 // it is refused, 0 and the place where it began. One definition says this for every width.
 ghost use mathlib.Core.Path.{_≡_};
-ghost use mathlib.Core.List.{[], _∷_};
 ghost use lib.ListN.{length};
 ghost use lib.IntN.{pos};
 ghost use Rattle.grammar.specs.Number as definition;
 ghost use Rattle.varint.specs.Answers.{putBytes};
-ghost use Rattle.utf8.specs.Check.{isUtf8};
-ghost use Rattle.beside.specs.Beside.{placeAt, numberAt, signedAt, numberOf, answer, valueOr, nextOr, pairOr, putAnswer};
-use grammar::Cursor;
-use refusal::Refusal;
+ghost use Rattle.grain.specs.Numbers.{numberAt, answer, valueOr, nextOr, pairOr};
+ghost use Rattle.beside.specs.Beside.{signedAt, putAnswer};
+use grain::numbers;
 use varint::ReadIndex;
-use varint::ReadNumber;
 use varint::ReadSigned;
 use varint::ReadSmall;
 use varint::Written;
 
-mod positions;
-
-fn place(at: usize) -> Cursor
-    ensures { λ r. ⌜ r ≡ placeAt at ⌝ }
-{
-    Cursor::new().advance(at)
-}
-
-fn number_of(r: Refusal) -> u64
-    ensures { λ n. ⌜ n ≡ numberOf r ⌝ }
-{
-    let row = refusal::row_of(r);
-    row.number
-}
-
-fn put_pair(out: &mut [u64; 2], value: u64, at: usize)
-    ensures { λ _. ⌜ now (out .exit) ≡ value ∷ at ∷ [] ⌝ }
-{
-    *out = [value, at as u64];
-}
-
-// An unsigned number of 64 bits.
-#[no_mangle]
-pub extern "C" fn beside_number(bytes: &[u8], at: usize, out: &mut [u64; 2]) -> u64
-    ensures { λ r. ⌜ r ≡ answer (numberAt 64 (now (bytes .entry)) at) ⌝ }
-    ensures { λ _. ⌜ now (out .exit) ≡ pairOr at (numberAt 64 (now (bytes .entry)) at) ⌝ }
-{
-    match varint::uvarint(bytes, place(at)) {
-        ReadNumber::Got { value, next } => {
-            put_pair(out, value, next.at);
-            0
-        }
-        ReadNumber::Refused(r) => {
-            put_pair(out, 0, at);
-            number_of(r)
-        }
-    }
-}
-
-// Of 32 bits.
+// An unsigned number of 32 bits.
 #[no_mangle]
 pub extern "C" fn beside_index(bytes: &[u8], at: usize, out: &mut [u64; 2]) -> u64
     ensures { λ r. ⌜ r ≡ answer (numberAt 32 (now (bytes .entry)) at) ⌝ }
     ensures { λ _. ⌜ now (out .exit) ≡ pairOr at (numberAt 32 (now (bytes .entry)) at) ⌝ }
 {
-    match varint::index(bytes, place(at)) {
+    match varint::index(bytes, numbers::place(at)) {
         ReadIndex::Got { value, next } => {
-            put_pair(out, value as u64, next.at);
+            numbers::put_pair(out, value as u64, next.at);
             0
         }
         ReadIndex::Refused(r) => {
-            put_pair(out, 0, at);
-            number_of(r)
+            numbers::put_pair(out, 0, at);
+            numbers::number_of(r)
         }
     }
 }
@@ -81,14 +39,14 @@ pub extern "C" fn beside_small(bytes: &[u8], at: usize, out: &mut [u64; 2]) -> u
     ensures { λ r. ⌜ r ≡ answer (numberAt 16 (now (bytes .entry)) at) ⌝ }
     ensures { λ _. ⌜ now (out .exit) ≡ pairOr at (numberAt 16 (now (bytes .entry)) at) ⌝ }
 {
-    match varint::small(bytes, place(at)) {
+    match varint::small(bytes, numbers::place(at)) {
         ReadSmall::Got { value, next } => {
-            put_pair(out, value as u64, next.at);
+            numbers::put_pair(out, value as u64, next.at);
             0
         }
         ReadSmall::Refused(r) => {
-            put_pair(out, 0, at);
-            number_of(r)
+            numbers::put_pair(out, 0, at);
+            numbers::number_of(r)
         }
     }
 }
@@ -100,7 +58,7 @@ pub extern "C" fn beside_signed(bytes: &[u8], at: usize, value: &mut i64, next: 
     ensures { λ _. ⌜ now (value .exit) ≡ valueOr (pos 0) (signedAt (now (bytes .entry)) at) ⌝ }
     ensures { λ _. ⌜ now (next .exit) ≡ nextOr at (signedAt (now (bytes .entry)) at) ⌝ }
 {
-    match varint::ivarint(bytes, place(at)) {
+    match varint::ivarint(bytes, numbers::place(at)) {
         ReadSigned::Got { value: z, next: to } => {
             *value = z;
             *next = to.at;
@@ -109,7 +67,7 @@ pub extern "C" fn beside_signed(bytes: &[u8], at: usize, value: &mut i64, next: 
         ReadSigned::Refused(r) => {
             *value = 0;
             *next = at;
-            number_of(r)
+            numbers::number_of(r)
         }
     }
 }
@@ -128,7 +86,7 @@ pub extern "C" fn beside_put(out: &mut [u8], value: u64, size: &mut usize) -> u6
         }
         Written::Refused(r) => {
             *size = varint::size(value);
-            number_of(r)
+            numbers::number_of(r)
         }
     }
 }
@@ -152,11 +110,4 @@ pub extern "C" fn beside_unzigzag(u: u64) -> i64
     ensures { λ r. ⌜ r ≡ definition.unzigzag u ⌝ }
 {
     varint::unzigzag(u)
-}
-
-#[no_mangle]
-pub extern "C" fn beside_utf8(bytes: &[u8]) -> bool
-    ensures { λ r. ⌜ r ≡ isUtf8 (now (bytes .entry)) ⌝ }
-{
-    utf8::is_utf8(bytes)
 }

@@ -7,6 +7,7 @@ pub type Put = unsafe extern "C" fn(*mut u8, usize, u64, *mut usize) -> u64;
 pub type Test = unsafe extern "C" fn(*const u8, usize) -> bool;
 
 extern "C" {
+    #[link_name = "grain_number"]
     pub fn beside_number(bytes: *const u8, len: usize, at: usize, out: *mut [u64; 2]) -> u64;
     pub fn beside_index(bytes: *const u8, len: usize, at: usize, out: *mut [u64; 2]) -> u64;
     pub fn beside_small(bytes: *const u8, len: usize, at: usize, out: *mut [u64; 2]) -> u64;
@@ -15,7 +16,12 @@ extern "C" {
     fn beside_size(value: u64) -> usize;
     fn beside_zigzag(z: i64) -> u64;
     fn beside_unzigzag(u: u64) -> i64;
-    pub fn beside_utf8(bytes: *const u8, len: usize) -> bool;
+    fn grain_utf8(bytes: *const u8, len: usize) -> u64;
+}
+
+/// The original answers a bool, and ours 1 or 0.
+pub unsafe extern "C" fn beside_utf8(bytes: *const u8, len: usize) -> bool {
+    grain_utf8(bytes, len) == 1
 }
 
 /// What a read answers. Where it is refused it has to leave 0 and the place where it began.

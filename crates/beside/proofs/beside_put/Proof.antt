@@ -1,5 +1,5 @@
 -- put's two ways; the size is that of the shortest form in both.
-use Rattle.beside.proofs.Told.{done-size}
+use Rattle.beside.proofs.Putting.{done-size}
 use mathlib.Core.Path.{_∙_, sym, refl}
 use borrow.Author.Needs.{needs}
 use Rattle.beside.proofs.beside_put.Statement.{statement}

@@ -1,5 +1,5 @@
 -- The read's two ways, told by the two laws of Told.
-use Rattle.beside.proofs.Told.{told-got, told-refused}
+use Rattle.grain.proofs.Told.{told-got, told-refused}
 use mir.Syntax.{w64}
 use mir.ValLaws.{toZ-ofZ}
 use borrow.Author.Needs.{needs}

@@ -1,5 +1,5 @@
 -- The read's two ways, told by the two laws of Told.
-use Rattle.beside.proofs.Told.{pair-got, pair-refused}
+use Rattle.grain.proofs.Told.{pair-got, pair-refused}
 use borrow.Author.Needs.{needs}
 use Rattle.beside.proofs.beside_small.Statement.{statement}
 use Rattle.beside.proofs.beside_small.Tie as tie

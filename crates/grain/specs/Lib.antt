@@ -1,0 +1,4 @@
+-- What the exported functions answer and leave.
+pub mod Numbers
+pub mod Positions
+pub mod Words
