@@ -14,6 +14,7 @@ pub fn words(a: Answer) -> [u64; 32]
     }
 }
 
+// A line a word, in the order of specs/Words.antt.
 fn accepted_words(a: Artifact) -> [u64; 32]
     ensures { λ r. ⌜ r ≡ acceptedWords a ⌝ }
 {

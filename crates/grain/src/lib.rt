@@ -3,7 +3,7 @@
 // A function answers 0, or the refusal's number in document 01's table, unless it says otherwise; what else it tells it leaves
 // in the places lent to it. None asks anything of what it is given.
 
-pub mod answer;
+mod answer;
 pub mod numbers;
 mod positions;
 mod read;

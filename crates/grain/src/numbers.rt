@@ -1,4 +1,4 @@
-// Numbers and text, for C.
+// Numbers and text, for C. The helpers are public for the crate `beside`, whose reads tell their answers in the same way.
 ghost use mathlib.Core.Bool.{cond};
 ghost use mathlib.Core.List.{[], _∷_};
 ghost use mathlib.Core.Path.{_≡_};
