@@ -70,7 +70,7 @@ fn sites(entries: usize) -> Vec<[u32; 3]> {
 }
 
 fn check(entries: usize, table: &[u8]) {
-    let (theirs, ours): (ours::Check, ours::Check) = (black_box(theirs::check), black_box(ours::beside_check));
+    let (theirs, ours): (ours::Check, ours::Check) = (black_box(theirs::check), black_box(ours::grain_pos_check));
     let calls = ENTRIES / entries;
     let run = |f: ours::Check| {
         let mut values = [0; 2];
@@ -81,7 +81,7 @@ fn check(entries: usize, table: &[u8]) {
 
 /// `walked` is the entries that are read until the walk stops.
 fn resolve(entries: usize, what: &str, table: &[u8], address: u32, walked: usize) {
-    let (theirs, ours): (ours::Resolve, ours::Resolve) = (black_box(theirs::resolve), black_box(ours::beside_resolve));
+    let (theirs, ours): (ours::Resolve, ours::Resolve) = (black_box(theirs::resolve), black_box(ours::grain_pos_resolve));
     let calls = ENTRIES / walked;
     let run = |f: ours::Resolve| {
         let mut site = [0; 2];
@@ -91,7 +91,7 @@ fn resolve(entries: usize, what: &str, table: &[u8], address: u32, walked: usize
 }
 
 fn encode(sites: &[[u32; 3]], size: usize) {
-    let (theirs, ours): (ours::Encode, ours::Encode) = (black_box(theirs::encode), black_box(ours::beside_encode));
+    let (theirs, ours): (ours::Encode, ours::Encode) = (black_box(theirs::encode), black_box(ours::grain_pos_encode));
     let [addresses, lines, columns] = [0, 1, 2].map(|k| sites.iter().map(|site| site[k]).collect::<Vec<u32>>());
     let (n, calls) = (sites.len(), ENTRIES / sites.len());
     let out = Cell::new(vec![0u8; size]);
@@ -108,7 +108,7 @@ fn encode(sites: &[[u32; 3]], size: usize) {
 }
 
 fn debug_id() {
-    let (theirs, ours): (ours::DebugId, ours::DebugId) = (black_box(theirs::debug_id), black_box(ours::beside_debug_id));
+    let (theirs, ours): (ours::DebugId, ours::DebugId) = (black_box(theirs::debug_id), black_box(ours::grain_debug_id));
     let mut random = Random::new(16);
     let bytes: Vec<u8> = (0..SIZE).map(|_| random.next() as u8).collect();
     let (table, chains) = bytes.split_at(SIZE / 2);

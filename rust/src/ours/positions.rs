@@ -8,10 +8,10 @@ pub type Encode =
 pub type DebugId = unsafe extern "C" fn(*const u8, usize, *const u8, usize, *mut [u64; 2]);
 
 extern "C" {
-    pub fn beside_check(table: *const u8, len: usize, values: *mut [u64; 2]) -> u64;
-    fn beside_count(table: *const u8, len: usize, values: *mut [u64; 2]) -> u64;
-    pub fn beside_resolve(table: *const u8, len: usize, address: u32, site: *mut [u64; 2]) -> u64;
-    pub fn beside_encode(
+    pub fn grain_pos_check(table: *const u8, len: usize, values: *mut [u64; 2]) -> u64;
+    fn grain_pos_count(table: *const u8, len: usize, values: *mut [u64; 2]) -> u64;
+    pub fn grain_pos_resolve(table: *const u8, len: usize, address: u32, site: *mut [u64; 2]) -> u64;
+    pub fn grain_pos_encode(
         addresses: *const u32,
         n: usize,
         lines: *const u32,
@@ -22,7 +22,7 @@ extern "C" {
         room: usize,
         values: *mut [u64; 2],
     ) -> u64;
-    pub fn beside_debug_id(table: *const u8, len: usize, chains: *const u8, more: usize, id: *mut [u64; 2]);
+    pub fn grain_debug_id(table: *const u8, len: usize, chains: *const u8, more: usize, id: *mut [u64; 2]);
 }
 
 /// What `values` holds before a call is never what a call leaves.
@@ -30,27 +30,27 @@ const UNTOLD: [u64; 2] = [!0, !0];
 
 pub fn check(table: &[u8]) -> Row {
     let mut values = UNTOLD;
-    let number = unsafe { beside_check(table.as_ptr(), table.len(), &mut values) };
+    let number = unsafe { grain_pos_check(table.as_ptr(), table.len(), &mut values) };
     [number, values[0], values[1]]
 }
 
 pub fn count(table: &[u8]) -> Row {
     let mut values = UNTOLD;
-    let number = unsafe { beside_count(table.as_ptr(), table.len(), &mut values) };
+    let number = unsafe { grain_pos_count(table.as_ptr(), table.len(), &mut values) };
     [number, values[0], values[1]]
 }
 
 /// 1, line and column, or three times 0.
 pub fn resolve(table: &[u8], address: u32) -> Row {
     let mut site = UNTOLD;
-    let found = unsafe { beside_resolve(table.as_ptr(), table.len(), address, &mut site) };
+    let found = unsafe { grain_pos_resolve(table.as_ptr(), table.len(), address, &mut site) };
     [found, site[0], site[1]]
 }
 
 pub fn encode([addresses, lines, columns]: [&[u32]; 3], out: &mut [u8]) -> Row {
     let mut values = UNTOLD;
     let number = unsafe {
-        beside_encode(
+        grain_pos_encode(
             addresses.as_ptr(),
             addresses.len(),
             lines.as_ptr(),
@@ -67,6 +67,6 @@ pub fn encode([addresses, lines, columns]: [&[u32]; 3], out: &mut [u8]) -> Row {
 
 pub fn debug_id(table: &[u8], chains: &[u8]) -> u128 {
     let mut id = UNTOLD;
-    unsafe { beside_debug_id(table.as_ptr(), table.len(), chains.as_ptr(), chains.len(), &mut id) };
+    unsafe { grain_debug_id(table.as_ptr(), table.len(), chains.as_ptr(), chains.len(), &mut id) };
     u128::from(id[1]) << 64 | u128::from(id[0])
 }
