@@ -1,6 +1,7 @@
 //! The two measured in one run, on the same input, by the same loop, through a call that is not inlined.
 //!
 //! Each table row is the best of many runs, which alternate between the two. It is a measurement, and no test.
+mod artifacts;
 mod numbers;
 mod positions;
 mod text;
@@ -38,4 +39,5 @@ pub fn all() {
     numbers::all();
     text::all();
     positions::all();
+    artifacts::all();
 }

@@ -1,4 +1,5 @@
 //! Whole artifacts.
+mod bounded;
 mod differences;
 mod inputs;
 mod met;
@@ -17,6 +18,7 @@ pub fn all() {
     println!("artifacts, read by the original and by {}:", ours::WHO);
     inputs::all();
     places::all();
+    bounded::all();
     differences::all();
 }
 

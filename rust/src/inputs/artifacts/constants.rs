@@ -5,7 +5,7 @@ const TAGS: [u8; 13] = [0x00, 0x01, 0x02, 0x03, 0x04, 0x05, 0x06, 0x07, 0x08, 0x
 
 /// Answers how many stand at the top.
 pub fn constants(w: &mut Writer) -> usize {
-    let tops = w.few();
+    let tops = w.records();
     w.count(tops);
     (0..tops).for_each(|_| constant(w, 3));
     tops

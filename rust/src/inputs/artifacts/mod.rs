@@ -14,3 +14,10 @@ pub fn artifact(seed: u64, fault: Option<Fault>) -> (Vec<u8>, usize) {
     sections::artifact(&mut writer);
     writer.done()
 }
+
+/// A stripped artifact with so many records in each section.
+pub fn large(seed: u64, records: usize) -> Vec<u8> {
+    let mut writer = Writer::large(seed, records);
+    sections::artifact(&mut writer);
+    writer.done().0
+}

@@ -8,21 +8,30 @@ pub fn artifact(w: &mut Writer) {
     w.text(&source);
     names(w);
     let tops = constants(w);
-    list(w, token);
-    list(w, assign);
-    list(w, chain);
-    list(w, |w| switch(w, tops));
-    list(w, site);
+    section(w, token);
+    section(w, assign);
+    section(w, chain);
+    section(w, |w| switch(w, tops));
+    section(w, site);
     w.chunk();
-    list(w, function);
+    section(w, function);
     let code = w.random.next().to_le_bytes();
     let size = w.few();
     w.counted(&code[..size]);
     positions(w);
 }
 
-fn list(w: &mut Writer, mut record: impl FnMut(&mut Writer)) {
+fn section(w: &mut Writer, record: impl FnMut(&mut Writer)) {
+    let count = w.records();
+    counted(w, count, record);
+}
+
+fn list(w: &mut Writer, record: impl FnMut(&mut Writer)) {
     let count = w.few();
+    counted(w, count, record);
+}
+
+fn counted(w: &mut Writer, count: usize, mut record: impl FnMut(&mut Writer)) {
     w.count(count);
     (0..count).for_each(|_| record(w));
 }
@@ -42,8 +51,8 @@ fn header(w: &mut Writer) {
 
 /// Ends that may stand still, and may stand within a letter.
 fn names(w: &mut Writer) {
-    let blob: String = (0..w.few()).map(|_| w.word()).collect();
-    let mut ends: Vec<u64> = (0..w.few()).map(|_| w.random.below(blob.len() as u64 + 1)).collect();
+    let blob: String = (0..w.records()).map(|_| w.word()).collect();
+    let mut ends: Vec<u64> = (0..w.records()).map(|_| w.random.below(blob.len() as u64 + 1)).collect();
     ends.sort_unstable();
     if !blob.is_empty() {
         ends.push(blob.len() as u64);
@@ -154,10 +163,10 @@ fn function(w: &mut Writer) {
     w.chunk();
 }
 
-/// One table in four is stripped.
+/// One table in four is stripped, and that of a large file.
 fn positions(w: &mut Writer) {
     let entries = w.few();
-    if entries == 0 {
+    if entries == 0 || w.stripped() {
         return w.count(0);
     }
     w.behind_length(|w| {

@@ -17,11 +17,26 @@ pub struct Writer {
     out: Vec<u8>,
     fields: usize,
     fault: Option<Fault>,
+    records: Option<usize>,
 }
 
 impl Writer {
     pub fn new(seed: u64, fault: Option<Fault>) -> Self {
-        Self { random: Random::new(2 * seed + 1), out: Vec::new(), fields: 0, fault }
+        Self { random: Random::new(2 * seed + 1), out: Vec::new(), fields: 0, fault, records: None }
+    }
+
+    /// With so many records in each section, and stripped.
+    pub fn large(seed: u64, records: usize) -> Self {
+        Self { records: Some(records), ..Self::new(seed, None) }
+    }
+
+    /// The records of a section: a few, where no number is given.
+    pub fn records(&mut self) -> usize {
+        self.records.unwrap_or_else(|| self.few())
+    }
+
+    pub fn stripped(&self) -> bool {
+        self.records.is_some()
     }
 
     pub fn done(self) -> (Vec<u8>, usize) {
