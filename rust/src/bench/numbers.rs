@@ -136,9 +136,9 @@ pub fn all() {
     let mut random = Random::new(8);
     let narrow = numbers(|| if random.below(10) < 9 { random.below(128) } else { random.any_width() >> 32 });
 
-    unsigned("number, one byte each", short.0.len(), &short.1, theirs::number, ours::beside_number);
-    unsigned("number, nine in ten one byte", mix.0.len(), &mix.1, theirs::number, ours::beside_number);
-    unsigned("number, nine and ten bytes", long.0.len(), &long.1, theirs::number, ours::beside_number);
+    unsigned("number, one byte each", short.0.len(), &short.1, theirs::number, ours::grain_number);
+    unsigned("number, nine in ten one byte", mix.0.len(), &mix.1, theirs::number, ours::grain_number);
+    unsigned("number, nine and ten bytes", long.0.len(), &long.1, theirs::number, ours::grain_number);
     unsigned("index, nine in ten one byte", narrow.0.len(), &narrow.1, theirs::index, ours::beside_index);
     unsigned("small, one byte each", short.0.len(), &short.1, theirs::small, ours::beside_small);
     let (f, g): (ours::ReadSigned, ours::ReadSigned) = (black_box(theirs::signed), black_box(ours::beside_signed));

@@ -11,7 +11,7 @@ unsafe extern "C" fn theirs(bytes: *const u8, len: usize) -> bool {
 }
 
 fn text(what: &str, bytes: &[u8]) {
-    let (theirs, ours): (ours::Test, ours::Test) = (black_box(theirs), black_box(ours::beside_utf8));
+    let (theirs, ours): (ours::Test, ours::Test) = (black_box(theirs), black_box(ours::utf8));
     let run = |f: ours::Test| unsafe { u64::from(f(bytes.as_ptr(), bytes.len())) };
     row(what, bytes.len(), best(|| run(theirs), || run(ours)));
 }

@@ -16,7 +16,7 @@ pub fn all() {
 
 /// The four reads at one place.
 fn reads(s: &[u8], at: usize) {
-    same("number", (s, at), original::number(s, at), ours::unsigned(ours::beside_number, s, at));
+    same("number", (s, at), original::number(s, at), ours::unsigned(ours::grain_number, s, at));
     same("index", (s, at), original::index(s, at), ours::unsigned(ours::beside_index, s, at));
     same("small", (s, at), original::small(s, at), ours::unsigned(ours::beside_small, s, at));
     same("signed", (s, at), original::signed(s, at), ours::signed(s, at));

@@ -17,10 +17,10 @@ pub fn check(table: &[u8]) -> Row {
     pos::check(table).map_or_else(refused, |()| [0; 3])
 }
 
-/// The count is the first value.
+/// The number and the count, or the number of the refusal and 0.
 #[inline]
-pub fn count(table: &[u8]) -> Row {
-    pos::count(table).map_or_else(refused, |n| [0, u64::from(n), 0])
+pub fn count(table: &[u8]) -> [u64; 2] {
+    pos::count(table).map_or_else(|why| [refused(why)[0], 0], |n| [0, u64::from(n)])
 }
 
 /// Line and column.

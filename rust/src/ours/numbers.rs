@@ -7,8 +7,7 @@ pub type Put = unsafe extern "C" fn(*mut u8, usize, u64, *mut usize) -> u64;
 pub type Test = unsafe extern "C" fn(*const u8, usize) -> bool;
 
 extern "C" {
-    #[link_name = "grain_number"]
-    pub fn beside_number(bytes: *const u8, len: usize, at: usize, out: *mut [u64; 2]) -> u64;
+    pub fn grain_number(bytes: *const u8, len: usize, at: usize, out: *mut [u64; 2]) -> u64;
     pub fn beside_index(bytes: *const u8, len: usize, at: usize, out: *mut [u64; 2]) -> u64;
     pub fn beside_small(bytes: *const u8, len: usize, at: usize, out: *mut [u64; 2]) -> u64;
     pub fn beside_signed(bytes: *const u8, len: usize, at: usize, value: *mut i64, next: *mut usize) -> u64;
@@ -20,7 +19,7 @@ extern "C" {
 }
 
 /// The original answers a bool, and ours 1 or 0.
-pub unsafe extern "C" fn beside_utf8(bytes: *const u8, len: usize) -> bool {
+pub unsafe extern "C" fn utf8(bytes: *const u8, len: usize) -> bool {
     grain_utf8(bytes, len) == 1
 }
 
@@ -68,5 +67,5 @@ pub fn unzigzag(u: u64) -> i64 {
 }
 
 pub fn is_utf8(bytes: &[u8]) -> bool {
-    unsafe { beside_utf8(bytes.as_ptr(), bytes.len()) }
+    unsafe { utf8(bytes.as_ptr(), bytes.len()) }
 }

@@ -9,7 +9,7 @@ pub type DebugId = unsafe extern "C" fn(*const u8, usize, *const u8, usize, *mut
 
 extern "C" {
     pub fn grain_pos_check(table: *const u8, len: usize, values: *mut [u64; 2]) -> u64;
-    fn grain_pos_count(table: *const u8, len: usize, values: *mut [u64; 2]) -> u64;
+    fn grain_pos_count(table: *const u8, len: usize, count: *mut u64) -> u64;
     pub fn grain_pos_resolve(table: *const u8, len: usize, address: u32, site: *mut [u64; 2]) -> u64;
     pub fn grain_pos_encode(
         addresses: *const u32,
@@ -34,10 +34,11 @@ pub fn check(table: &[u8]) -> Row {
     [number, values[0], values[1]]
 }
 
-pub fn count(table: &[u8]) -> Row {
-    let mut values = UNTOLD;
-    let number = unsafe { grain_pos_count(table.as_ptr(), table.len(), &mut values) };
-    [number, values[0], values[1]]
+/// The number and the count, which is 0 on a refusal: its reason is not told.
+pub fn count(table: &[u8]) -> [u64; 2] {
+    let mut count = !0;
+    let number = unsafe { grain_pos_count(table.as_ptr(), table.len(), &mut count) };
+    [number, count]
 }
 
 /// 1, line and column, or three times 0.
