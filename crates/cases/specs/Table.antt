@@ -1,4 +1,4 @@
--- "Numbers and files to try" of document 01, those marked * in its order; `Hold` of proofs/ says that every one holds.
+-- "Numbers and files to try" of document 01, those marked * in its order, then two about the order of tests; `Hold` of proofs/ says that every one holds.
 use Prim.Native.Nat.{ℕ, zero, suc, _-_, _^_}
 use mathlib.Core.Path.{_≡_}
 use mathlib.Core.List.{List, [], _∷_, _++_}
@@ -87,6 +87,10 @@ under (suc n) = 0x07 ∷ 0x01 ∷ under n
 abbrev nested : ℕ → List ℕ
 nested n = front ++ ((0x01 ∷ under n) ++ replicate 11 0)
 
+-- an int width of 4, up to caps: not starred, but an error that tempts is to test the widths before caps has arrived
+abbrev narrow : List ℕ
+narrow = 0x52 ∷ 0x47 ∷ 0x52 ∷ 0x4E ∷ 0x0B ∷ 0x00 ∷ 0x04 ∷ 0x08 ∷ []
+
 abbrev pub cases : List Case
 cases =
     reads (0x80 ∷ 0x00 ∷ []) (got 0 (advanced start 2))
@@ -105,4 +109,6 @@ cases =
     ∷ loads (0x52 ∷ 0x47 ∷ 0x52 ∷ 0x4E ∷ 0x0B ∷ 0x00 ∷ 0x08 ∷ 0x08 ∷ replicate 35 0) (got tt (advanced start 43))
     ∷ loads (nested 64) (got tt (advanced start 172))
     ∷ loads (nested 65) (refused Refusal.ConstantTooDeep)
+    ∷ loads (narrow ++ replicate 3 0) (refused Refusal.Truncated)
+    ∷ loads (narrow ++ replicate 4 0) (refused (Refusal.Abi 4 8))
     ∷ []
