@@ -5,15 +5,9 @@ use mathlib.Core.List.{List, [], _∷_, foldl}
 use native.Mathlib.Nat.{zero-add, add-mul}
 use native.Mathlib.Omega.{arith}
 use lib.ListN.{length, length-append}
-use lib.Dec.{ltb, eqb}
-use mathlib.Core.Bool.{Bool, true, false}
-use Rattle.refusal.specs.declared.Refusal.{Refusal}
-use Rattle.grammar.proofs.Outcome.{got-ne-refused}
-use Rattle.grammar.specs.Combinators.{if_then_else_}
 use Rattle.grammar.specs.declared.Cursor.{Cursor}
-use Rattle.grammar.specs.Outcome.{start, Outcome, got, refused, after}
+use Rattle.grammar.specs.Outcome.{start, got}
 use Rattle.grammar.specs.Combinators.{Text}
-use Rattle.grammar.specs.Combinators as combinators
 use Rattle.tables.specs.Table.{rows, With, countItems}
 use Rattle.tables.proofs.Nesting.{length-rows}
 use Rattle.tables.proofs.Fitting.{rows-fit}
@@ -26,7 +20,8 @@ use Rattle.format.specs.File as definition
 use Rattle.format.specs.Rows as R
 use Rattle.reading.specs.Answer.{placesOf, filledAll}
 use Rattle.promises.specs.Words.{allInFront}
-use Rattle.promises.proofs.Leaves.{Leaves, leaves-pure, leaves-then, leaves-bind}
+use Rattle.leaves.proofs.Leaves.{Leaves, leaves-pure, leaves-then, leaves-bind}
+use Rattle.leaves.proofs.Accepted.{sections-got}
 use Rattle.promises.proofs.Fits.{leaves-names, leaves-constants, leaves-tokens, leaves-assigns, leaves-chains, leaves-switches, leaves-customs, leaves-functions}
 
 -- what was read takes no more places than there are
@@ -40,7 +35,7 @@ pub record Placed (P : A.Places) (a : A.Artifact) : Type 0 where
   pub customs : (length (a .customs) ≤ P .customs) × (foldl countItems 0 (a .customs) ≤ P .inputs)
   pub functions : (length (a .functions) ≤ P .functions) × (foldl countItems 0 (a .functions) ≤ P .parameters)
 
-leaves-artifact : (P : A.Places) (mask : ℕ) → Leaves (definition.artifact P mask) (Placed P)
+leaves-artifact : {s : List ℕ} (P : A.Places) (mask : ℕ) → Leaves s (definition.artifact P mask) (Placed P)
 unfolding definition.artifact
 leaves-artifact P mask =
     leaves-bind _ _ (λ h. leaves-bind _ _ (λ source.
@@ -91,26 +86,6 @@ module _ (width : ℕ) (table : List ℕ) where
   items-in : {X : Type 0} (row : X → List ℕ) (takes : X → ℕ) → ((x : X) → length (row x) ≡ takes x * width) → (xs : List X) →
       foldl (λ n x. n + takes x) 0 xs ≤ length table / width → length (rows row xs) ≤ length table
   items-in row takes each xs h = rw (words-of row takes width each xs) (rows-fit width (foldl (λ n x. n + takes x) 0 xs) (length table) h)
-
--- all sections of an accepted file were got
-sections-got : (P : A.Places) (mask : ℕ) (s : List ℕ) (a : A.Artifact) (last : Cursor) → definition.read P mask s ≡ got a last →
-    definition.artifact P mask s start ≡ got a last
-unfolding definition.read combinators.file
-sections-got P mask s a last e = within (ltb 1048576 (length s)) e
-  where
-    at-end : (b : A.Artifact) (next : Cursor) (t : Bool) →
-        (if t then got b next else refused (Refusal.TrailingBytes (length s - next .at))) ≡ got a last → got b next ≡ got a last
-    at-end b next true e = e
-    at-end b next false e = absurd (got-ne-refused (sym e))
-
-    got-all : (o : Outcome A.Artifact) → after o (combinators.ended s) ≡ got a last → o ≡ got a last
-    got-all (got b next) e = at-end b next (eqb (next .at) (length s)) e
-    got-all (refused r) e = absurd (got-ne-refused (sym e))
-
-    within : (t : Bool) → (if t then refused (Refusal.TooLong (length s)) else after (definition.artifact P mask s start) (combinators.ended s)) ≡ got a last →
-        definition.artifact P mask s start ≡ got a last
-    within true e = absurd (got-ne-refused (sym e))
-    within false e = got-all (definition.artifact P mask s start) e
 
 -- every list of words fits its table
 abbrev AllFit : List (List ℕ) → List (List ℕ) → Type 0
@@ -185,4 +160,4 @@ module _ (t1 t2 t3 t4 t5 t6 t7 t8 t9 t10 t11 t12 t13 : List ℕ) where
       filledAll tables (R.tablesOf a) ≡ allInFront tables (R.tablesOf a)
   accepted-in-front mask s a last e =
       let sections = sections-got (placesOf tables) mask s a last e in
-      fitting-in-front tables (R.tablesOf a) (all-fit a (leaves-artifact (placesOf tables) mask .always s start a last sections))
+      fitting-in-front tables (R.tablesOf a) (all-fit a (leaves-artifact (placesOf tables) mask .always start a last sections))

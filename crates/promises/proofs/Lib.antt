@@ -1,6 +1,5 @@
 -- The demands, and the laws that they rest on.
 pub mod Tables
-pub mod Leaves
 pub mod Fits
 pub mod Front
 pub mod Demands
