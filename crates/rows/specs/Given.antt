@@ -1,0 +1,26 @@
+-- Every record of a file is given back by its row.
+use Prim.Native.Nat.{ℕ}
+use mathlib.Core.Path.{_≡_}
+use mathlib.Core.List.{List}
+use Rattle.grammar.specs.Combinators.{Text, Each}
+use Rattle.format.specs.declared.records.Assign.{Assign}
+use Rattle.format.specs.Artifact as A
+use Rattle.format.specs.Rows as R
+use Rattle.rows.specs.Back as B
+use Rattle.rows.specs.Fits.{Throughout, ThroughoutCases}
+
+-- an assign record with its texts' places, as the code has it
+abbrev pub placedAssign : A.Assign Text → Assign
+placedAssign a =
+    record { «op_assign» = a .opAssign .span; «op_assign_name» = a .opAssignName; op = a .op .span; «op_name» = a .opName }
+
+abbrev pub Back : {X : Type 0} → (X → List ℕ) → (List ℕ → X) → X → Type 0
+Back row of x = of (row x) ≡ x
+
+pub record GivenBack (a : A.Artifact) : Type 0 where
+  pub tokens : Each (λ t. B.spanOf (R.tokenRow t) ≡ t .span) (a .tokens)
+  pub assigns : Each (λ x. B.assignOf (R.assignRow x) ≡ placedAssign x) (a .assigns)
+  pub chains : Each (Throughout (Back R.chainRow B.chainOf) (Back R.stepRow B.stepOf)) (a .chains)
+  pub switches : Each (ThroughoutCases (Back R.switchRow B.switchOf) (Back R.caseRow B.caseOf) (Back R.rangeRow B.rangeOf)) (a .switches)
+  pub customs : Each (Throughout (Back R.siteRow B.siteOf) (Back R.inputRow B.inputOf)) (a .customs)
+  pub functions : Each (Throughout (Back R.functionRow B.functionOf) (Back R.parameterRow B.parameterOf)) (a .functions)
