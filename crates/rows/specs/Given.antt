@@ -1,13 +1,18 @@
 -- Every record of a file is given back by its row.
-use Prim.Native.Nat.{ℕ}
+use Prim.Native.Nat.{ℕ, _^_, _<_}
 use mathlib.Core.Path.{_≡_}
 use mathlib.Core.List.{List}
+use lib.ListN.{getD}
 use Rattle.grammar.specs.Combinators.{Text, Each}
 use Rattle.format.specs.declared.records.Assign.{Assign}
 use Rattle.format.specs.Artifact as A
 use Rattle.format.specs.Rows as R
 use Rattle.rows.specs.Back as B
 use Rattle.rows.specs.Fits.{Throughout, ThroughoutCases}
+
+-- a slice of u8 holds bytes
+abbrev pub Bytes : List ℕ → Type 0
+Bytes s = (i : ℕ) → getD s i 0 < 2 ^ 8
 
 -- an assign record with its texts' places, as the code has it
 abbrev pub placedAssign : A.Assign Text → Assign
