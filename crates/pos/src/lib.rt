@@ -138,7 +138,10 @@ pub fn check(table: &[u8]) -> Checked
 {
     let w = skim::skim(table, 0x1_0000_0000);
     if 0 < w.c.at {
-        return entries(table, w);
+        if 0 < w.left {
+            return entries(table, w);
+        }
+        return ended(table.len(), w.c);
     }
     match reading::field(table, Cursor::new()) {
         ReadIndex::Got { value, next } => entries(table, skim::begun(next, value)),
