@@ -9,13 +9,18 @@ use Rattle.grammar.specs.declared.Cursor.{Cursor}
 use Rattle.grammar.specs.Outcome.{Outcome, got, refused}
 use Rattle.format.specs.Artifact as A
 use Rattle.format.specs.File as definition
+use Rattle.format.specs.Rows.{tablesOf}
 use Rattle.format.proofs.Torn as torn
+use Rattle.rows.specs.Given.{Bytes}
+use Rattle.rows.proofs.Stored.{read-back}
 use Rattle.reading.specs.declared.answer.Artifact.{Artifact}
 use Rattle.reading.specs.declared.answer.Answer.{Answer}
 use Rattle.reading.specs.Answer.{placesOf, outside, answerOf, tablesAfter, Answered}
+use Rattle.promises.specs.Back.{TablesGive}
 use Rattle.promises.specs.Words.{Call, SameTables, RefusedWith, AcceptedAs, zeros}
 use Rattle.promises.proofs.Tables.{same-places}
 use Rattle.promises.proofs.Front.{accepted-in-front}
+use Rattle.promises.proofs.Back.{begin-front, tables-give}
 
 accepted-refused : {a : Artifact} {r : Refusal} → Answer.Accepted a ≡ Answer.Refused r → ⊥
 accepted-refused e = let z : _≡_ {A = ℕ} 0 1 = cc in omega arith
@@ -68,6 +73,14 @@ module _ (t1 t2 t3 t4 t5 t6 t7 t8 t9 t10 t11 t12 t13 : List ℕ) where
         leaves = contract .tables ∙ ap (λ (o : Outcome A.Artifact). tablesAfter o tables) (g .gave)
             ∙ accepted-in-front t1 t2 t3 t4 t5 t6 t7 t8 t9 t10 t11 t12 t13 mask s (g .what) (g .last) (g .gave);
       }
+
+  -- and the rows of each table, cut apart and taken back, are the records that were read
+  pub acceptance-gives-back : {mask : ℕ} {s : List ℕ} {exit : List (List ℕ)} {a : Artifact} → Bytes s → (accepted : AcceptedAs mask s tables exit a) →
+      TablesGive (accepted .what) exit
+  acceptance-gives-back {mask} {s} bytes accepted =
+      rw (accepted .leaves)
+      (tables-give (accepted .what) _ (read-back (placesOf tables) mask s bytes (accepted .what) (accepted .last) (accepted .read))
+      (begin-front tables (tablesOf (accepted .what)) refl))
 
 -- ── demand 3, its first half ──
 

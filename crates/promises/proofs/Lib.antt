@@ -2,4 +2,5 @@
 pub mod Tables
 pub mod Fits
 pub mod Front
+pub mod Back
 pub mod Demands

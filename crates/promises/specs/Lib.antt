@@ -1,2 +1,3 @@
 -- The words of the promises.
 pub mod Words
+pub mod Back

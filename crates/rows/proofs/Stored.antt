@@ -15,7 +15,7 @@ use Rattle.rows.proofs.Fitting.{leaves-artifact}
 use Rattle.rows.proofs.Inverse.{token-back, assign-back, chain-back, step-back, switch-back, case-back, range-back, site-back, input-back, function-back, parameter-back}
 
 -- what follows for one follows for each
-each : {X : Type 0} {P Q : X → Type 0} → ((x : X) → P x → Q x) → (xs : List X) → Each P xs → Each Q xs
+pub each : {X : Type 0} {P Q : X → Type 0} → ((x : X) → P x → Q x) → (xs : List X) → Each P xs → Each Q xs
 each one [] ok = tt
 each one (x ∷ xs) ok = (one x (ok .0), each one xs (ok .1))
 
