@@ -1,8 +1,6 @@
 //! Every artifact of `vectors/`, through the crate. The answers there come from document 01 by another reading of it.
-mod cases;
-mod words;
-
-use cases::{cases, Case};
+use crate::cases::{cases, Case};
+use crate::words;
 use grain::{read, Artifact, OwnedArtifact, Refusal, StepFlags, Tables};
 
 /// What was answered, in words: number and values, and behind an acceptance what stands outside of the tables.
@@ -72,5 +70,36 @@ fn tables_that_grow_change_only_full() {
         let owned = OwnedArtifact::read(case.artifact.clone(), StepFlags(case.mask));
         let words = answered(owned.as_ref().map(OwnedArtifact::artifact).map_err(|refusal| *refusal));
         assert_eq!(words, case.answer, "{}", case.name);
+    }
+}
+
+/// So many records that each has a row, and one item where it has items, in every table.
+fn crowded(count: u8) -> Vec<u8> {
+    let list = |record: &[u8]| [&[count], record.repeat(count.into()).as_slice()].concat();
+    let sections = [
+        b"RGRN\x0b\x00\x08\x08".to_vec(),
+        vec![0; 20],
+        vec![0],
+        [list(&[0]), vec![0]].concat(),
+        list(&[0]),
+        list(&[0]),
+        list(&[0, 0, 0, 0]),
+        list(&[2, 0, 1, 1, 0, 0, 0, 0, 0, 0, 1]),
+        list(&[1, 0, 0, 1, 0, 0, 0, 0, 0]),
+        list(&[0, 0, 1, 0, 0, 0, 0]),
+        vec![0, 0, 0],
+        list(&[0, 0, 0, 1, 0, 0, 0, 0]),
+        vec![0, 0],
+    ];
+    sections.concat()
+}
+
+#[test]
+fn every_table_grows() {
+    let count = 127;
+    let owned = OwnedArtifact::read(crowded(count), StepFlags::SKIP_IF_UNIT).unwrap();
+    for table in grain::Table::ALL {
+        let rows = owned.artifact().table(table).len() / table.words();
+        assert_eq!(rows, usize::from(count), "{}", table.name());
     }
 }
