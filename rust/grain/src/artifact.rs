@@ -80,7 +80,8 @@ impl<'a> Artifact<'a> {
             0 => 0,
             after => *ends.get(after as usize - 1)?,
         };
-        self.blob().as_bytes().get(start as usize..end as usize)
+        // Not by way of `blob`, which tests all of the text.
+        span(self.bytes, self.answer[BLOB], self.answer[BLOB + 1]).get(start as usize..end as usize)
     }
 
     /// The top constants.

@@ -79,7 +79,8 @@ pub fn resolve(table: &[u8], address: u32) -> Option<Site> {
 ///
 /// # Errors
 ///
-/// [`Refusal::TooLong`], [`Refusal::NotAscending`], or [`Refusal::NoRoom`] with the bytes that are needed; `out` stays as it was.
+/// [`Refusal::TooLong`], [`Refusal::NotAscending`], or [`Refusal::NoRoom`] with the bytes that are needed; `out` stays as it
+/// was.
 pub fn encode(addresses: &[u32], lines: &[u32], columns: &[u32], out: &mut [u8]) -> Result<usize, Refusal> {
     answered(sys::pos_encode(addresses, lines, columns, out)).map(|size| size as usize)
 }
@@ -138,5 +139,43 @@ fn answered(row: [u64; 3]) -> Result<u64, Refusal> {
     match row {
         [0, value, _] => Ok(value),
         refused => Err(Refusal::of(refused)),
+    }
+}
+
+#[cfg(test)]
+mod tests {
+    use super::*;
+    use crate::PositionsFault;
+
+    #[test]
+    fn refused_sites_leave_the_output_as_it_was() {
+        let mut out = [7; 8];
+        let falling = Refusal::NotAscending { address: 5, earlier: 5 };
+        assert_eq!(encode(&[5, 5], &[1, 1], &[1, 1], &mut out), Err(falling));
+        assert_eq!(encode(&[0, 5], &[1, 2], &[1, 300], &mut out[..7]), Err(Refusal::NoRoom { needed: 8 }));
+        static MANY: [u32; 262_145] = [0; 262_145];
+        assert_eq!(encode(&MANY, &MANY, &MANY, &mut out), Err(Refusal::TooLong { length: 262_145 }));
+        assert_eq!(out, [7; 8]);
+    }
+
+    #[test]
+    fn a_count_that_cannot_be_read_has_its_reason() {
+        assert_eq!(count(&[]), Err(Refusal::Positions(PositionsFault::Truncated)));
+        assert_eq!(count(&[0x80; 10]), Err(Refusal::Positions(PositionsFault::Overflow)));
+        assert_eq!(count(&[0x80, 0x80, 0x80, 0x80, 0x10]), Err(Refusal::Positions(PositionsFault::Overflow)));
+        // Its entries are not looked at.
+        assert_eq!(count(&[9]), Ok(9));
+    }
+
+    #[test]
+    fn entries_are_what_addresses_resolve_to() {
+        let table = [3, 0, 1, 1, 5, 0, 4, 2, 9, 9];
+        assert_eq!(check(&table), Ok(()));
+        for entry in entries(&table) {
+            assert_eq!(resolve(&table, entry.address), (entry.site.line != 0).then_some(entry.site));
+        }
+        assert_eq!(entries(&table).map(|entry| entry.address).sum::<u32>(), 5 + 7);
+        // Cut in the last entry.
+        assert_eq!(entries(&table[..9]).count(), 2);
     }
 }

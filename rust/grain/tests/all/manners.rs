@@ -87,6 +87,7 @@ fn progress_is_for_terminals() {
     };
     assert_eq!(run(false), "");
     let shown = run(true);
-    assert!(shown.contains("standard input: 1 MB read"), "{shown:?}");
+    // How much was read when depends on the machine.
+    assert!(shown.starts_with("\r\x1b[Kstandard input: ") && shown.contains(" MB read"), "{shown:?}");
     assert!(shown.ends_with("\r\x1b[K"), "{shown:?}");
 }

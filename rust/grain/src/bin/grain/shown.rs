@@ -4,6 +4,9 @@ use std::ffi::OsStr;
 /// Names that are referred to are cut at so many letters, lest one long name make a small file a large dump.
 const SHORT: usize = 48;
 
+/// A letter has at most four bytes, and one more letter shows that there are more.
+const LOOKED_AT: usize = 4 * (SHORT + 1);
+
 /// A file's name. `-` is standard input.
 pub fn file(name: &OsStr) -> String {
     if name == "-" {
@@ -28,19 +31,30 @@ pub fn text(bytes: &[u8]) -> String {
     }
 }
 
-/// The same, cut short with dots behind it.
+/// The same, cut short with dots behind it. No more is looked at than could be shown, since many records may name one text.
 pub fn short(bytes: &[u8]) -> String {
-    let Ok(whole) = std::str::from_utf8(bytes) else {
-        return cut(bytes, SHORT / 2).map_or_else(|| text(bytes), |front| format!("bytes {}..", hex(front)));
+    let front = bytes.get(..LOOKED_AT).unwrap_or(bytes);
+    let front = match std::str::from_utf8(front) {
+        Ok(text) => text,
+        // The look ends inside of a letter.
+        Err(why) if why.error_len().is_none() && front.len() < bytes.len() => valid(front, why.valid_up_to()),
+        Err(_) => return short_hex(bytes),
     };
-    match whole.char_indices().nth(SHORT) {
-        Some((end, _)) => format!("{:?}..", &whole[..end]),
-        None => format!("{whole:?}"),
+    match front.char_indices().nth(SHORT) {
+        Some((end, _)) => format!("{:?}..", &front[..end]),
+        None => format!("{front:?}"),
     }
 }
 
-fn cut(bytes: &[u8], at: usize) -> Option<&[u8]> {
-    bytes.get(..at).filter(|front| front.len() < bytes.len())
+fn valid(bytes: &[u8], end: usize) -> &str {
+    std::str::from_utf8(&bytes[..end]).unwrap_or_default()
+}
+
+fn short_hex(bytes: &[u8]) -> String {
+    match bytes.get(..SHORT / 2) {
+        Some(front) if front.len() < bytes.len() => format!("bytes {}..", hex(front)),
+        _ => format!("bytes {}", hex(bytes)),
+    }
 }
 
 /// Two digits a byte.
@@ -63,6 +77,7 @@ mod tests {
     fn long_names_are_cut_between_letters() {
         assert_eq!(short("ä".repeat(49).as_bytes()), format!("\"{}\"..", "ä".repeat(48)));
         assert_eq!(short("ä".repeat(48).as_bytes()), format!("\"{}\"", "ä".repeat(48)));
+        assert_eq!(short(format!("a{}", "🌧".repeat(99)).as_bytes()), format!("\"a{}\"..", "🌧".repeat(47)));
         assert_eq!(short(&[0xFF; 24]), format!("bytes {}", "ff".repeat(24)));
         assert_eq!(short(&[0xFF; 25]), format!("bytes {}..", "ff".repeat(24)));
     }

@@ -66,7 +66,7 @@ fn name(view: &View<'_>, index: NameIndex, json: &mut Json<'_>) -> io::Result<()
 }
 
 fn operator(view: &View<'_>, index: OperatorIndex, json: &mut Json<'_>) -> io::Result<()> {
-    reference(index.0, view.artifact.assign(index).map(|assign| assign.op_assign.as_bytes()), json)
+    reference(index.0, view.token(index).map(str::as_bytes), json)
 }
 
 fn reference(index: u32, name: Option<&[u8]>, json: &mut Json<'_>) -> io::Result<()> {

@@ -1,25 +1,31 @@
 //! An artifact with its indices looked up.
 use crate::shown;
-use grain::records::{ConstantIndex, NameIndex, OperatorIndex};
+use grain::records::{Assign, ConstantIndex, NameIndex, OperatorIndex};
 use grain::{Artifact, Constant};
 
 pub struct View<'a> {
     pub artifact: Artifact<'a>,
-    /// The top constants: walking to each anew would take too long where many are named.
-    pub constants: Vec<Constant<'a>>,
+    /// Looked up once: doing it anew would take too long where many records name one.
+    constants: Vec<Constant<'a>>,
+    assigns: Vec<Assign<'a>>,
 }
 
 impl<'a> View<'a> {
     pub fn new(artifact: Artifact<'a>) -> View<'a> {
-        View { artifact, constants: artifact.constants().collect() }
+        View { artifact, constants: artifact.constants().collect(), assigns: artifact.assigns().collect() }
     }
 
     pub fn name(&self, index: NameIndex) -> String {
         self.artifact.name(index).map_or_else(|| format!("name {} (not there)", index.0), shown::short)
     }
 
+    /// The token of an operator that assigns.
+    pub fn token(&self, index: OperatorIndex) -> Option<&'a str> {
+        self.assigns.get(index.0 as usize).map(|assign| assign.op_assign)
+    }
+
     pub fn operator(&self, index: OperatorIndex) -> String {
-        let token = self.artifact.assign(index).map(|assign| assign.op_assign);
+        let token = self.token(index);
         token.map_or_else(|| format!("operator {} (not there)", index.0), |token| shown::short(token.as_bytes()))
     }
 
