@@ -5,13 +5,13 @@ use std::{env, process};
 fn main() {
     println!("cargo:rerun-if-changed=build.rs");
     held_to_its_machine();
-    let folder = Path::new(env!("CARGO_MANIFEST_DIR")).join("../../target/staticlib");
+    let folder = root().join("target/staticlib");
     let archive = folder.join("libgrain.a");
     println!("cargo:rerun-if-changed={}", archive.display());
     if !archive.is_file() {
         missing(&archive);
     }
-    println!("cargo:rustc-link-search=native={}", plain(folder).display());
+    println!("cargo:rustc-link-search=native={}", folder.display());
     println!("cargo:rustc-link-lib=static=grain");
 }
 
@@ -23,9 +23,10 @@ fn held_to_its_machine() {
     }
 }
 
-/// Without the `..`, where the folder is there: shorter in what the linker says.
-fn plain(folder: PathBuf) -> PathBuf {
-    folder.canonicalize().unwrap_or(folder)
+/// The root of the repository: this crate is in rust/grain.
+fn root() -> PathBuf {
+    let here = PathBuf::from(env::var_os("CARGO_MANIFEST_DIR").unwrap_or_default());
+    here.ancestors().nth(2).unwrap_or(&here).to_path_buf()
 }
 
 fn missing(archive: &Path) -> ! {
