@@ -1,5 +1,5 @@
 //! Help, versions, wrong words, closed pipes, full disks and terminals.
-use crate::process::{bytes, command, complained, file, grain, said};
+use crate::process::{bytes, command, complained, file, grain, least, said};
 use std::fs::OpenOptions;
 use std::io::Read;
 use std::process::Command;
@@ -73,21 +73,30 @@ fn a_full_disk_is_told() {
     assert_eq!(err, "grain: standard output: No space left on device (os error 28)\n");
 }
 
+/// What a check writes to standard error, on a terminal or not, when a program of Python feeds it.
+fn watched(terminal: bool, feeder: &str, files: &[&str]) -> String {
+    let mode = if terminal { "terminal" } else { "pipe" };
+    let mut python = Command::new("python3");
+    python.args(["-c", include_str!("terminal.py"), mode, feeder, env!("CARGO_BIN_EXE_grain"), "check"]).args(files);
+    let ended = python.output().expect("python3 is the terminal");
+    assert!(ended.status.success(), "{ended:?}");
+    String::from_utf8(ended.stdout).unwrap()
+}
+
 #[test]
-fn progress_is_for_terminals() {
-    // Long enough for a line of progress, if this were a terminal.
+fn progress_of_a_large_input_is_for_terminals() {
     let slowly = "import os, time\nfor _ in range(8): os.write(1, bytes(1 << 19)); time.sleep(0.1)";
-    let run = |terminal: bool| {
-        let program = include_str!("terminal.py");
-        let mode = if terminal { "terminal" } else { "pipe" };
-        let ended = Command::new("python3").args(["-c", program, mode, slowly, env!("CARGO_BIN_EXE_grain")]).output();
-        let ended = ended.expect("python3 is the terminal");
-        assert!(ended.status.success(), "{ended:?}");
-        String::from_utf8(ended.stdout).unwrap()
-    };
-    assert_eq!(run(false), "");
-    let shown = run(true);
+    assert_eq!(watched(false, slowly, &["-"]), "");
+    let shown = watched(true, slowly, &["-"]);
     // How much was read when depends on the machine.
     assert!(shown.starts_with("\r\x1b[Kstandard input: ") && shown.contains(" MB read"), "{shown:?}");
     assert!(shown.ends_with("\r\x1b[K"), "{shown:?}");
+}
+
+#[test]
+fn progress_of_many_files_is_for_terminals() {
+    let name = file("manners-least", &least());
+    let late = "import time; time.sleep(0.5)";
+    assert_eq!(watched(false, late, &["-", &name]), "");
+    assert_eq!(watched(true, late, &["-", &name]), "\r\x1b[K1 of 2 files\r\x1b[K");
 }

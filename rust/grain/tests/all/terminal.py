@@ -1,10 +1,10 @@
-# Runs `grain check -` with standard error on a terminal or a pipe, feeds it slowly, and prints what came there.
+# Runs a command with standard error on a terminal or a pipe, feeds it by a program, and prints what came there.
 import os, pty, subprocess, sys
 
-mode, feeder, grain = sys.argv[1:]
+mode, feeder, *command = sys.argv[1:]
 near, far = pty.openpty() if mode == 'terminal' else os.pipe()
 feeding = subprocess.Popen([sys.executable, '-c', feeder], stdout=subprocess.PIPE)
-checking = subprocess.run([grain, 'check', '-'], stdin=feeding.stdout, stdout=subprocess.DEVNULL, stderr=far)
+subprocess.run(command, stdin=feeding.stdout, stdout=subprocess.DEVNULL, stderr=far)
 os.close(far)
 feeding.wait()
 said = b''
@@ -14,4 +14,3 @@ try:
 except OSError:
     pass  # a terminal that was hung up
 sys.stdout.buffer.write(said)
-sys.exit(0 if checking.returncode == 1 else 1)

@@ -85,3 +85,22 @@ fn parameters(kind: FnPtrKind, json: &mut Json<'_>) -> io::Result<()> {
         FnPtrKind::Script { parameters } => json.plain(parameters),
     }
 }
+
+#[cfg(test)]
+mod tests {
+    use super::*;
+
+    #[test]
+    fn floats_that_json_lacks_keep_their_bits() {
+        for (value, wanted) in [
+            (f64::NAN, r#"{"bits":"7ff8000000000000","value":null}"#),
+            (f64::NEG_INFINITY, r#"{"bits":"fff0000000000000","value":null}"#),
+            (-0.0, r#"{"bits":"8000000000000000","value":-0.0}"#),
+            (1e300, r#"{"bits":"7e37e43c8800759c","value":1e300}"#),
+        ] {
+            let mut out = Vec::new();
+            Json::new(&mut out).object(|json| float(value, json)).unwrap();
+            assert_eq!(String::from_utf8(out).unwrap(), wanted);
+        }
+    }
+}
