@@ -6,6 +6,7 @@ mod dump;
 mod files;
 mod help;
 mod json;
+mod output;
 mod positions;
 mod progress;
 mod resolve;
@@ -16,12 +17,12 @@ mod writer;
 
 use status::{Failure, Status};
 use std::ffi::OsString;
-use std::io::{self, BufWriter, IsTerminal, Write};
+use std::io::{self, Write};
 use std::process::ExitCode;
 
 fn main() -> ExitCode {
     let words: Vec<OsString> = std::env::args_os().skip(1).collect();
-    let mut out = output();
+    let mut out = output::open();
     let ended = match run(&words, &mut *out) {
         Ok(status) => written(out.flush(), status),
         Err(failure) => {
@@ -31,16 +32,6 @@ fn main() -> ExitCode {
         }
     };
     ended.into()
-}
-
-/// Lines show at once on a terminal, and are gathered elsewhere.
-fn output() -> Box<dyn Write> {
-    let out = io::stdout();
-    if out.is_terminal() {
-        Box::new(out)
-    } else {
-        Box::new(BufWriter::new(out))
-    }
 }
 
 /// The status, unless the last of the output could not be written. A closed pipe does not change it.

@@ -1,8 +1,8 @@
 //! `grain positions`: the entries of a position table.
 use crate::progress::Progress;
-use crate::status::{complain, Failure, Status};
-use crate::{args, files, shown, writer};
-use grain::pos::{self, Site};
+use crate::status::{self, complain, Failure, Status};
+use crate::{args, files, output, shown};
+use grain::pos;
 use grain::{Refusal, StepFlags};
 use std::ffi::{OsStr, OsString};
 use std::io::Write;
@@ -13,16 +13,16 @@ pub fn run(words: &[OsString], out: &mut dyn Write) -> Result<Status, Failure> {
     let table = if args.has("--table") { lone(name)? } else { of_artifact(name, mask)? };
     let table = match table {
         Ok(table) => table,
-        Err(refusal) => return Ok(refused(name, refusal)),
+        Err(refusal) => return Ok(status::refused(name, refusal)),
     };
     if table.is_empty() {
         complain(&format!("grain: {}: stripped, there is no position table", shown::file(name)));
     }
     if args.has("--raw") {
-        writer::bytes(&table, out)?;
+        output::bytes(&table, out)?;
     } else {
         for entry in pos::entries(&table) {
-            writeln!(out, "{} {}", entry.address, site(entry.site))?;
+            writeln!(out, "{} {}", entry.address, shown::site(entry.site))?;
         }
     }
     Ok(Status::Accepted)
@@ -37,18 +37,4 @@ pub fn of_artifact(name: &OsStr, mask: StepFlags) -> Result<Result<Vec<u8>, Refu
 fn lone(name: &OsStr) -> Result<Result<Vec<u8>, Refusal>, Failure> {
     let table = files::whole(name)?;
     Ok(pos::check(&table).map(|()| table))
-}
-
-/// Tells a refusal of what was to be shown.
-pub fn refused(name: &OsStr, refusal: Refusal) -> Status {
-    complain(&format!("grain: {}: refused {} {refusal}", shown::file(name), refusal.number()));
-    Status::Refused
-}
-
-/// Line and column; line 0 means that they are not known.
-pub fn site(site: Site) -> String {
-    match site.line {
-        0 => "none".to_string(),
-        line => format!("{line}:{}", site.column),
-    }
 }

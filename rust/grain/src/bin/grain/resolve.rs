@@ -1,6 +1,6 @@
 //! `grain resolve`: the places in the source of addresses.
-use crate::status::{Failure, Status};
-use crate::{args, files, positions};
+use crate::status::{self, Failure, Status};
+use crate::{args, files, positions, shown};
 use grain::pos;
 use std::ffi::{OsStr, OsString};
 use std::io::Write;
@@ -18,18 +18,18 @@ pub fn run(words: &[OsString], out: &mut dyn Write) -> Result<Status, Failure> {
     if args.has("--artifact") {
         return match positions::of_artifact(name, mask)? {
             Ok(table) => told(&table, &addresses, out),
-            Err(refusal) => Ok(positions::refused(name, refusal)),
+            Err(refusal) => Ok(status::refused(name, refusal)),
         };
     }
     // A table that is not sound may still have the site: it is told, and the refusal with it.
     let table = files::whole(name)?;
     let told = told(&table, &addresses, out)?;
-    Ok(pos::check(&table).map_or_else(|refusal| positions::refused(name, refusal), |()| told))
+    Ok(pos::check(&table).map_or_else(|refusal| status::refused(name, refusal), |()| told))
 }
 
 fn told(table: &[u8], addresses: &[u32], out: &mut dyn Write) -> Result<Status, Failure> {
     for address in addresses {
-        let site = pos::resolve(table, *address).map_or("none".to_string(), positions::site);
+        let site = pos::resolve(table, *address).map_or("none".to_string(), shown::site);
         writeln!(out, "{address} {site}")?;
     }
     Ok(Status::Accepted)

@@ -1,7 +1,7 @@
 //! `grain sample`: an artifact with something in every section. It is the one that `vectors/artifacts.py` calls RICH.
-use crate::args;
 use crate::status::{Failure, Status};
-use crate::writer::{self, each, number, signed, text};
+use crate::writer::{each, number, signed, text};
+use crate::{args, output};
 use std::ffi::OsString;
 use std::fs;
 use std::io::Write;
@@ -13,7 +13,7 @@ pub fn run(words: &[OsString], out: &mut dyn Write) -> Result<Status, Failure> {
     }
     match args.value("-o").or(args.value("--output")) {
         Some(name) => fs::write(name, artifact()).map_err(|why| Failure::file(name, why))?,
-        None => writer::bytes(&artifact(), out)?,
+        None => output::bytes(&artifact(), out)?,
     }
     Ok(Status::Accepted)
 }

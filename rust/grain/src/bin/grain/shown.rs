@@ -1,4 +1,5 @@
 //! How names, texts and bytes are shown to a reader: on one line, with nothing in them that moves a terminal.
+use grain::pos::Site;
 use std::ffi::OsStr;
 
 /// Names that are referred to are cut at so many letters, lest one long name make a small file a large dump.
@@ -54,6 +55,14 @@ fn short_hex(bytes: &[u8]) -> String {
     match bytes.get(..SHORT / 2) {
         Some(front) if front.len() < bytes.len() => format!("bytes {}..", hex(front)),
         _ => format!("bytes {}", hex(bytes)),
+    }
+}
+
+/// Line and column; line 0 means that they are not known.
+pub fn site(site: Site) -> String {
+    match site.line {
+        0 => "none".to_string(),
+        line => format!("{line}:{}", site.column),
     }
 }
 

@@ -1,5 +1,6 @@
 //! How a run ends.
 use crate::shown;
+use grain::Refusal;
 use std::ffi::OsStr;
 use std::io::{self, Write};
 use std::process::ExitCode;
@@ -71,6 +72,12 @@ impl From<io::Error> for Failure {
             _ => Failure::Output(why),
         }
     }
+}
+
+/// Tells that what was to be shown is refused.
+pub fn refused(name: &OsStr, refusal: Refusal) -> Status {
+    complain(&format!("grain: {}: refused {} {refusal}", shown::file(name), refusal.number()));
+    Status::Refused
 }
 
 /// A line on standard error. Where even that is closed, nothing can be said.

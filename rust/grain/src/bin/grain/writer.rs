@@ -1,15 +1,4 @@
-//! How the file writes things: enough for the sample, and bytes for standard output.
-use crate::status::Failure;
-use std::io::{self, IsTerminal, Write};
-
-/// Bytes to standard output, unless a reader sits there.
-pub fn bytes(bytes: &[u8], out: &mut dyn Write) -> Result<(), Failure> {
-    if io::stdout().is_terminal() {
-        return Err(Failure::usage("bytes are not written to a terminal: send them to a file"));
-    }
-    out.write_all(bytes)?;
-    Ok(())
-}
+//! How the format writes things: as much of it as the sample needs.
 
 /// A number in its shortest form.
 pub fn number(mut value: u64) -> Vec<u8> {

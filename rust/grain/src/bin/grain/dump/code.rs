@@ -1,5 +1,5 @@
 //! The code, and beside each address that has one its place in the source.
-use crate::positions::site;
+use crate::shown::site;
 use grain::pos::{self, Entry};
 use grain::Artifact;
 use std::io::{self, Write};

@@ -7,8 +7,8 @@ mod tree;
 mod view;
 
 use crate::progress::Progress;
-use crate::status::{Failure, Status};
-use crate::{args, files, positions};
+use crate::status::{self, Failure, Status};
+use crate::{args, files};
 use std::ffi::OsString;
 use std::io::Write;
 use view::View;
@@ -18,7 +18,7 @@ pub fn run(words: &[OsString], out: &mut dyn Write) -> Result<Status, Failure> {
     let (name, mask) = (args.only("FILE")?, args.mask()?);
     let owned = match files::artifact(name, mask, &mut Progress::new())? {
         Ok(owned) => owned,
-        Err(refusal) => return Ok(positions::refused(name, refusal)),
+        Err(refusal) => return Ok(status::refused(name, refusal)),
     };
     let view = View::new(owned.artifact());
     if args.has("--json") {
