@@ -32,6 +32,9 @@ fn addresses_are_resolved() {
     let sample = file("tables-sample-2", &bytes(&["sample"]));
     assert_eq!(grain(["resolve", "--artifact", &sample, "5"]), said(0, "5 2:300\n"));
     assert_eq!(fed(b"XYZW", ["resolve", "--artifact", "-", "5"]).status, 1);
+    let err = "grain: standard input: stripped, there is no position table\n".to_string();
+    let none = Ended { status: 0, out: "5 none\n".to_string(), err };
+    assert_eq!(fed(&least(), ["resolve", "--artifact", "-", "5"]), none);
     for wrong in ["x", "4294967296", "-1", "+1", "", "0x"] {
         assert_eq!(grain(["resolve", &table, "--", wrong]).status, 2, "{wrong}");
     }

@@ -15,9 +15,6 @@ pub fn run(words: &[OsString], out: &mut dyn Write) -> Result<Status, Failure> {
         Ok(table) => table,
         Err(refusal) => return Ok(status::refused(name, refusal)),
     };
-    if table.is_empty() {
-        complain(&format!("grain: {}: stripped, there is no position table", shown::file(name)));
-    }
     if args.has("--raw") {
         output::bytes(&table, out)?;
     } else {
@@ -28,10 +25,14 @@ pub fn run(words: &[OsString], out: &mut dyn Write) -> Result<Status, Failure> {
     Ok(Status::Accepted)
 }
 
-/// The position table of an artifact; empty where it was stripped.
+/// The position table of an artifact. Where that was stripped it is empty, and this is told.
 pub fn of_artifact(name: &OsStr, mask: StepFlags) -> Result<Result<Vec<u8>, Refusal>, Failure> {
     let read = files::artifact(name, mask, &mut Progress::new())?;
-    Ok(read.map(|owned| owned.artifact().positions().to_vec()))
+    let table = read.map(|owned| owned.artifact().positions().to_vec());
+    if table.as_ref().is_ok_and(Vec::is_empty) {
+        complain(&format!("grain: {}: stripped, there is no position table", shown::file(name)));
+    }
+    Ok(table)
 }
 
 fn lone(name: &OsStr) -> Result<Result<Vec<u8>, Refusal>, Failure> {
