@@ -16,13 +16,13 @@ use varint::ReadNumber;
 use varint::ReadSigned;
 
 // The words of a row that are known before the items, with the items' count, and whether the items have keys and
-// a function pointer's kind follows them.
+// a function pointer's kind follows them. Words stand before bytes, so that each is read back as it was stored.
 pub struct Head {
-    pub tag: u8,
     pub a: u64,
     pub b: u64,
     pub span: Span,
     pub items: u64,
+    pub tag: u8,
     pub keyed: bool,
     pub pointer: bool,
 }
