@@ -2,12 +2,12 @@
 use Prim.Native.Nat.{ℕ, zero, suc}
 use mathlib.Core.Path.{_≡_, refl, sym}
 use mathlib.Core.Bool.{Bool, true, false}
-use mathlib.Core.List.{List, [], _∷_, foldl}
+use mathlib.Core.List.{List, foldl}
 use lib.Dec.{eqb}
 use Rattle.refusal.specs.declared.Refusal.{Refusal}
 use Rattle.refusal.specs.declared.Place.{Place}
 use Rattle.grammar.specs.declared.Cursor.{Cursor}
-use Rattle.grammar.specs.Outcome.{Outcome, got, refused, Parser, pure, refuse, _>>=_}
+use Rattle.grammar.specs.Outcome.{got, Parser, pure, refuse, _>>=_}
 use Rattle.grammar.specs.Combinators.{if_then_else_, check, _⇒_∣_, unknown, many, Each}
 use Rattle.grammar.proofs.Outcome.{got-ne-refused, got-value, bind-got}
 use Rattle.tables.proofs.Fitting.{many-keeps}

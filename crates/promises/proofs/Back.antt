@@ -1,9 +1,9 @@
 -- Tables that begin with the rows of what was read give its records back.
 use Prim.Native.Nat.{ℕ, zero, suc, _<_}
-use mathlib.Core.Path.{_≡_, refl, sym, _∙_, ap}
+use mathlib.Core.Path.{_≡_, refl, _∙_, ap}
 use mathlib.Core.List.{List, [], _∷_, _++_, map, flatMap, append-assoc}
 use native.Mathlib.Omega.{arith}
-use lib.ListN.{length, getD, take, drop}
+use lib.ListN.{length, getD}
 use lib.Seq.{take-at, drop-at}
 use Rattle.grammar.specs.Combinators.{Each}
 use Rattle.tables.specs.Table.{rows, With}
@@ -19,7 +19,7 @@ use Rattle.rows.proofs.Stored.{each}
 use Rattle.chains.proofs.Words.{chain-width, step-width}
 use Rattle.callables.proofs.Items.{input-wide}
 use Rattle.promises.specs.Words.{allInFront}
-use Rattle.promises.specs.Back.{cut, recordsOf, TablesGive, Begin}
+use Rattle.promises.specs.Back.{recordsOf, TablesGive, Begin}
 
 -- rows of one width, in front of a table
 rows-give : {X Y : Type 0} (row : X → List ℕ) (of : List ℕ → Y) (view : X → Y) (width : ℕ) → ((x : X) → length (row x) ≡ width) →

@@ -1,6 +1,6 @@
 -- An accepted read leaves the rows in front of each table and zeros behind them.
 use Prim.Native.Nat.{ℕ, _+_, _-_, _*_, _/_, _≤_}
-use mathlib.Core.Path.{_≡_, refl, sym, _∙_, ap}
+use mathlib.Core.Path.{_≡_, refl, _∙_, ap}
 use mathlib.Core.List.{List, [], _∷_, foldl}
 use native.Mathlib.Nat.{zero-add, add-mul}
 use native.Mathlib.Omega.{arith}
@@ -8,7 +8,7 @@ use lib.ListN.{length, length-append}
 use Rattle.grammar.specs.declared.Cursor.{Cursor}
 use Rattle.grammar.specs.Outcome.{start, got}
 use Rattle.grammar.specs.Combinators.{Text}
-use Rattle.tables.specs.Table.{rows, With, countItems}
+use Rattle.tables.specs.Table.{rows, countItems}
 use Rattle.tables.proofs.Nesting.{length-rows}
 use Rattle.tables.proofs.Fitting.{rows-fit}
 use Rattle.tables.proofs.Stores.{filled-front}

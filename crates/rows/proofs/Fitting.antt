@@ -1,5 +1,5 @@
 -- What a read gives of bytes fits.
-use Prim.Native.Nat.{ℕ, _+_, _*_, _-_, _^_, _≤_, _<_}
+use Prim.Native.Nat.{ℕ, _-_, _^_, _≤_, _<_}
 use mathlib.Core.Path.{_≡_, refl, sym}
 use mathlib.Core.Bool.{Bool, true, false}
 use mathlib.Core.List.{List}
@@ -12,7 +12,7 @@ use mir.Val.{SFits}
 use borrow.Author.Tests.{eqb-false, leb-true}
 use Rattle.refusal.specs.declared.Refusal.{Refusal}
 use Rattle.grammar.specs.declared.Cursor.{Cursor}
-use Rattle.grammar.specs.Outcome.{advanced, got, refused, Parser, pure, _>>=_, _>>_}
+use Rattle.grammar.specs.Outcome.{advanced, got, refused, Parser}
 use Rattle.grammar.specs.Combinators.{if_then_else_, enough, taking, byte, Each}
 use Rattle.grammar.specs.Number.{number, signed, zigzag, unzigzag}
 use Rattle.grammar.proofs.Outcome.{got-ne-refused, got-value}
@@ -23,7 +23,7 @@ use Rattle.format.specs.declared.records.Literal.{Literal}
 use Rattle.format.specs.declared.records.ThisType.{ThisType}
 use Rattle.format.specs.Artifact as A
 use Rattle.format.specs.File as definition
-use Rattle.leaves.proofs.Leaves.{Leaves, leaves-pure, leaves-refuse, leaves-then, leaves-bind, leaves-check, leaves-tag, leaves-unknown, leaves-each}
+use Rattle.leaves.proofs.Leaves.{Leaves, leaves-pure, leaves-then, leaves-bind, leaves-check, leaves-tag, leaves-unknown, leaves-each}
 use Rattle.rows.specs.Fits.{FitsBits, FitsName, FitsPosition, FitsChunk, FitsAssign, FitsRoot, FitsTail, FitsChain, FitsStep, FitsSwitch, FitsCase, FitsRange, FitsSite, FitsLiteral, FitsInput, FitsThis, FitsFunction, Throughout, ThroughoutCases, FitsArtifact}
 use Rattle.rows.specs.Given.{Bytes}
 

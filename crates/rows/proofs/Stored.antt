@@ -1,6 +1,6 @@
 -- The rows that a read stores give its records back.
 use Prim.Native.Nat.{ℕ}
-use mathlib.Core.Path.{_≡_, refl}
+use mathlib.Core.Path.{_≡_}
 use mathlib.Core.List.{List, [], _∷_}
 use Rattle.grammar.specs.declared.Cursor.{Cursor}
 use Rattle.grammar.specs.Outcome.{start, got}
@@ -9,7 +9,7 @@ use Rattle.tables.specs.Table.{With}
 use Rattle.format.specs.Artifact as A
 use Rattle.format.specs.File as definition
 use Rattle.leaves.proofs.Accepted.{sections-got}
-use Rattle.rows.specs.Fits.{FitsSwitch, FitsCase, FitsRange, Throughout, ThroughoutCases, FitsArtifact}
+use Rattle.rows.specs.Fits.{Throughout, FitsArtifact}
 use Rattle.rows.specs.Given.{Bytes, GivenBack}
 use Rattle.rows.proofs.Fitting.{leaves-artifact}
 use Rattle.rows.proofs.Inverse.{token-back, assign-back, chain-back, step-back, switch-back, case-back, range-back, site-back, input-back, function-back, parameter-back}

@@ -1,7 +1,7 @@
 -- The way back: the record that the words of a row stand for, in the order of the rows' own definitions. Every row gives a record:
 -- a word is taken modulo the width of what it holds, and a tag that is none of the known ones means the last variant.
 use Prim.Native.Nat.{ℕ, _-_, _%_, _^_}
-use mathlib.Core.Bool.{Bool, not}
+use mathlib.Core.Bool.{not}
 use mathlib.Core.List.{List}
 use lib.ListN.{getD}
 use lib.Dec.{eqb}
@@ -11,8 +11,6 @@ use mir.Val.{toZ}
 use Rattle.grammar.specs.declared.Span.{Span}
 use Rattle.grammar.specs.Combinators.{if_then_else_}
 use Rattle.format.specs.declared.records.NameIndex.{NameIndex}
-use Rattle.format.specs.declared.records.ConstantIndex.{ConstantIndex}
-use Rattle.format.specs.declared.records.OperatorIndex.{OperatorIndex}
 use Rattle.format.specs.declared.records.OptionalPosition.{OptionalPosition}
 use Rattle.format.specs.declared.records.Chunk.{Chunk}
 use Rattle.format.specs.declared.records.Assign.{Assign}
