@@ -1,16 +1,32 @@
-//! The proved functions beside the original: `beside compare` and `beside bench`.
+//! The proved functions beside the original: compared and measured, and beside the answers of ../vectors.
 mod bench;
 mod compare;
 mod ours;
+mod vectors;
+
+use compare::Seeded;
+use std::path::Path;
+
+/// The artifacts of a seed that every comparison ends with.
+const SHORT: Seeded = Seeded { count: 10_000, seed: 1 };
+
+fn usage() -> ! {
+    eprintln!("usage: beside compare [--million [SEED]] | beside bench | beside vectors FOLDER");
+    std::process::exit(2);
+}
 
 fn main() {
-    let word = std::env::args().nth(1);
-    match word.as_deref() {
-        Some("compare") => compare::all(),
-        Some("bench") => bench::all(),
-        _ => {
-            eprintln!("usage: beside compare | beside bench");
-            std::process::exit(2);
+    let words: Vec<String> = std::env::args().skip(1).collect();
+    let words: Vec<&str> = words.iter().map(String::as_str).collect();
+    match words[..] {
+        ["compare"] => compare::all(SHORT),
+        ["compare", "--million"] => compare::all(Seeded { count: 1_000_000, ..SHORT }),
+        ["compare", "--million", seed] => {
+            let seed = seed.parse().unwrap_or_else(|_| usage());
+            compare::all(Seeded { count: 1_000_000, seed });
         }
+        ["bench"] => bench::all(),
+        ["vectors", folder] => vectors::all(Path::new(folder)),
+        _ => usage(),
     }
 }

@@ -13,11 +13,11 @@ use std::hint::black_box;
 /// Into tables that have the places it needs.
 fn artifact(bytes: &[u8]) {
     let used = read(bytes, OWN_MASK).used();
-    let mut tables = std::array::from_fn(|k| vec![0u64; used[k] * WIDTHS[k]]);
+    let mut tables: [Vec<u64>; 13] = std::array::from_fn(|k| vec![0u64; used[k] * WIDTHS[k]]);
     let calls = (SIZE / 10 / bytes.len()).max(1);
     settings::know_flags(None);
     let theirs = || (0..calls).map(|_| u64::from(black_box(Program::read(black_box(bytes))).is_ok())).sum();
-    let ours = || (0..calls).map(|_| u64::from(ours::read(black_box(bytes), OWN_MASK, &mut tables)[0] == 0)).sum();
+    let ours = || (0..calls).map(|_| u64::from(ours::read(black_box(bytes), OWN_MASK, tables.each_mut().map(|table| &mut table[..]))[0] == 0)).sum();
     row(&format!("artifact of {} bytes, a byte", bytes.len()), calls * bytes.len(), best(theirs, ours));
 }
 

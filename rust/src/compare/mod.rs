@@ -6,15 +6,16 @@ mod numbers;
 mod positions;
 mod text;
 
+pub use artifacts::Seeded;
 use std::fmt::Debug;
 
-pub fn all() {
+pub fn all(seeded: Seeded) {
     numbers::all();
     text::all();
     positions::all();
     encode::all();
     debug_id::all();
-    artifacts::all();
+    artifacts::all(seeded);
     println!("no difference");
 }
 

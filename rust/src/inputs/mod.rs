@@ -1,6 +1,7 @@
 //! What the two are tried on. The random part has a fixed seed, so that every run tries the same.
 pub mod artifacts;
 pub mod bytes;
+pub mod case;
 pub mod sites;
 pub mod tables;
 

@@ -1,9 +1,6 @@
 //! The reader.
 use beside::artifact::Words;
 
-/// What stands here, which the comparison says.
-pub const WHO: &str = "the proved reader";
-
 extern "C" {
     fn grain_read(
         bytes: *const u8, len: usize, mask: u8,
@@ -16,7 +13,7 @@ extern "C" {
 }
 
 /// Reads into lent tables, of which every word is written: rows in front, and zeros behind.
-pub fn read(bytes: &[u8], mask: u8, tables: &mut [Vec<u64>; 13]) -> Words {
+pub fn read(bytes: &[u8], mask: u8, tables: [&mut [u64]; 13]) -> Words {
     let mut words = [!0; 32];
     let [t1, t2, t3, t4, t5, t6, t7, t8, t9, t10, t11, t12, t13] = tables;
     unsafe {
