@@ -1,0 +1,38 @@
+# Sourced by run, in the repository's folder: faults on purpose, each of which must be found.
+
+# A copy of the archive with the faults behind its reader.
+folder=$PWD/target/fuzz/faulty
+archive=$folder/libgrain.a
+mkdir -p "$folder"
+objcopy --redefine-sym grain_read=proved_read target/staticlib/libgrain.a "$archive"
+cc -std=c11 -Wall -Wextra -Werror -O1 -Iinclude -c fuzz/faults.c -o "$folder/faults.o"
+ar r "$archive" "$folder/faults.o"
+
+build_fuzzer "$archive" "$folder"
+(cd rust && GRAIN_ARCHIVE=$archive CARGO_TARGET_DIR=$folder/cargo cargo build --offline --release --quiet --bin beside)
+seeds "$folder/seeds"
+
+fuzzed() { "$folder/fuzz" -max_total_time=60 -max_len=2048 -artifact_prefix="$folder/" "$@" "$folder/seeds" >"$folder/said" 2>&1; }
+compared() { "$folder/cargo/release/beside" compare artifacts >"$folder/said" 2>&1; }
+
+fail() { # WHY
+    cat "$folder/said" >&2
+    echo "fuzz/run: $1" >&2
+    exit 1
+}
+
+# Without a fault the two must be content, else what follows says nothing.
+export GRAIN_FAULT=0
+fuzzed -runs=0 || fail 'the fuzzer fails without a fault'
+compared || fail 'the comparison fails without a fault'
+for GRAIN_FAULT in 1 2 3 4 5 6 7 8 9 10; do
+    export GRAIN_FAULT
+    rm -f "$folder"/crash-*
+    if fuzzed || ! ls "$folder"/crash-* >/dev/null 2>&1; then fail "fault $GRAIN_FAULT is not found by the fuzzer"; fi
+    echo "fault $GRAIN_FAULT: the fuzzer finds $(grep -m 1 -E 'ERROR: libFuzzer|same answer|rows of|words of|zeros|three words' "$folder/said")"
+    # What is touched outside of the lent memory only the fuzzer's closed pages show.
+    [ "$GRAIN_FAULT" -lt 9 ] || continue
+    if compared; then fail "fault $GRAIN_FAULT is not found by the comparison"; fi
+    echo "fault $GRAIN_FAULT: the comparison finds $(grep -m 1 'the original has' "$folder/said" | sed 's/ of (.*//')"
+done
+echo 'every fault is found'
