@@ -2,6 +2,7 @@
 mod bench;
 mod compare;
 mod ours;
+mod stack;
 mod vectors;
 
 use compare::Seeded;
@@ -11,7 +12,7 @@ use std::path::Path;
 const SHORT: Seeded = Seeded { count: 10_000, seed: 1 };
 
 fn usage() -> ! {
-    eprintln!("usage: beside compare [--million [SEED]] | beside bench | beside vectors FOLDER");
+    eprintln!("usage: beside compare [artifacts | --million [SEED]] | beside bench | beside plot FILE | beside stack | beside vectors FOLDER");
     std::process::exit(2);
 }
 
@@ -20,12 +21,15 @@ fn main() {
     let words: Vec<&str> = words.iter().map(String::as_str).collect();
     match words[..] {
         ["compare"] => compare::all(SHORT),
+        ["compare", "artifacts"] => compare::artifacts(SHORT),
         ["compare", "--million"] => compare::all(Seeded { count: 1_000_000, ..SHORT }),
         ["compare", "--million", seed] => {
             let seed = seed.parse().unwrap_or_else(|_| usage());
             compare::all(Seeded { count: 1_000_000, seed });
         }
         ["bench"] => bench::all(),
+        ["stack"] => stack::all(),
+        ["plot", file] => bench::draw(Path::new(file)),
         ["vectors", folder] => vectors::all(Path::new(folder)),
         _ => usage(),
     }

@@ -1,28 +1,79 @@
 //! Whole artifacts, an item being a byte of the file.
 //!
-//! They are stripped, since the original looks for each instruction in the position table from its front. What the original makes
-//! of a string or a value is a stand-in's here, and `verify` is left out, so this is near what it takes, and not the same.
+//! What the original makes of a string or a value is a stand-in's here, and `verify` is left out, so this is near what it takes,
+//! and not the same.
+use super::memory::used;
 use super::{best, row, SIZE};
 use crate::ours::artifact as ours;
 use beside::artifact::WIDTHS;
-use beside::inputs::artifacts::large;
+use beside::inputs::artifacts::measured::{file, with_positions, Of};
 use beside::original::artifact::{read, OWN_MASK};
 use rhai_grain::{settings, Program};
 use std::hint::black_box;
+use std::time::Duration;
 
-/// Into tables that have the places it needs.
-fn artifact(bytes: &[u8]) {
+/// The bytes that are read in one run, in as many calls as that takes.
+const RUN: usize = SIZE / 10;
+
+/// Tables that have the places a file needs.
+pub fn places(bytes: &[u8]) -> [Vec<u64>; 13] {
     let used = read(bytes, OWN_MASK).used();
-    let mut tables: [Vec<u64>; 13] = std::array::from_fn(|k| vec![0u64; used[k] * WIDTHS[k]]);
-    let calls = (SIZE / 10 / bytes.len()).max(1);
-    settings::know_flags(None);
-    let theirs = || (0..calls).map(|_| u64::from(black_box(Program::read(black_box(bytes))).is_ok())).sum();
-    let ours = || (0..calls).map(|_| u64::from(ours::read(black_box(bytes), OWN_MASK, tables.each_mut().map(|table| &mut table[..]))[0] == 0)).sum();
-    row(&format!("artifact of {} bytes, a byte", bytes.len()), calls * bytes.len(), best(theirs, ours));
+    std::array::from_fn(|k| vec![0u64; used[k] * WIDTHS[k]])
 }
 
+/// Whether the original looks for each instruction in the position table, which it walks from its front, as it does unless it
+/// is told not to.
+#[derive(Clone, Copy)]
+pub struct Walk(pub bool);
+
+/// Answers the best times, and the bytes that each of them read.
+pub fn measure(bytes: &[u8], walk: Walk) -> ([Duration; 2], usize) {
+    let mut tables = places(bytes);
+    let calls = (RUN / bytes.len()).max(1);
+    settings::know_flags(None);
+    settings::walk_code(walk.0);
+    let theirs = || (0..calls).map(|_| u64::from(black_box(Program::read(black_box(bytes))).is_ok())).sum();
+    let ours = || {
+        let read = |_| u64::from(ours::read(black_box(bytes), OWN_MASK, tables.each_mut().map(|table| &mut table[..]))[0] == 0);
+        (0..calls).map(read).sum()
+    };
+    (best(theirs, ours), calls * bytes.len())
+}
+
+fn timed(what: &str, bytes: &[u8], walk: Walk) {
+    let (least, items) = measure(bytes, walk);
+    row(&format!("{what}, {} bytes, a byte", bytes.len()), items, least);
+}
+
+const STRIPPED: [(&str, Of, usize); 6] = [
+    ("stripped", Of::All, 10_000),
+    ("stripped", Of::All, 100_000),
+    ("stripped", Of::All, 500_000),
+    ("all constants", Of::Constants, 100_000),
+    ("all chains", Of::Chains, 100_000),
+    ("all code", Of::Code, 100_000),
+];
+
 pub fn all() {
-    for records in [1, 30, 1_000, 5_000] {
-        artifact(&large(1, records));
+    for (what, of, size) in STRIPPED {
+        timed(what, &file(of, size), Walk(true));
+    }
+    for (what, walk) in [("positions", Walk(true)), ("positions, no walk", Walk(false))] {
+        for instructions in [100, 1_000, 2_000] {
+            timed(what, &with_positions(instructions), walk);
+        }
+    }
+}
+
+/// What is lent, where the tables have exactly the places that the file needs, and what the original takes from its allocator.
+pub fn memory() {
+    println!("| {:<38} | {:>10} | {:>10} | {:>10} | {:>11} |", "bytes of memory", "Rust holds", "at most", "ours, lent", "allocations");
+    println!("|{:-<40}|{:->12}|{:->12}|{:->12}|{:->13}|", "", ":", ":", ":", ":");
+    for (what, of, size) in STRIPPED {
+        let bytes = file(of, size);
+        let theirs = used(|| Program::read(&bytes).unwrap());
+        let lent: usize = places(&bytes).iter().map(|table| 8 * table.len()).sum();
+        let what = format!("{what}, {} bytes", bytes.len());
+        println!("| {what:<38} | {:>10} | {:>10} | {lent:>10} | {:>11} |", theirs.held, theirs.most, theirs.asked);
     }
 }

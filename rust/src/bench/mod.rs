@@ -2,10 +2,13 @@
 //!
 //! Each table row is the best of many runs, which alternate between the two. It is a measurement, and no test.
 mod artifacts;
+mod memory;
 mod numbers;
+mod plot;
 mod positions;
 mod text;
 
+pub use plot::draw;
 use std::hint::black_box;
 use std::time::{Duration, Instant};
 
@@ -40,4 +43,6 @@ pub fn all() {
     text::all();
     positions::all();
     artifacts::all();
+    println!();
+    artifacts::memory();
 }

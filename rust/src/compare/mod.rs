@@ -15,6 +15,10 @@ pub fn all(seeded: Seeded) {
     positions::all();
     encode::all();
     debug_id::all();
+    artifacts(seeded);
+}
+
+pub fn artifacts(seeded: Seeded) {
     artifacts::all(seeded);
     println!("no difference");
 }

@@ -5,6 +5,7 @@ mod inputs;
 mod met;
 mod places;
 mod seeded;
+mod threads;
 
 use super::same;
 use crate::ours::artifact as ours;
@@ -23,6 +24,7 @@ pub fn all(seeded: Seeded) {
     places::all();
     bounded::all();
     differences::all();
+    threads::all();
     seeded::all(seeded);
 }
 

@@ -5,6 +5,7 @@
 pub const SECTIONS: [&[u8]; 12] = [b"\0", b"\0\0", b"\0", b"\0", b"\0", b"\0", b"\0", b"\0", b"\0\0\0", b"\0", b"\0", b"\0"];
 
 pub const CONSTANTS: usize = 2;
+pub const CHAINS: usize = 5;
 pub const CODE: usize = 10;
 
 /// The least artifact with other bytes for one section.
@@ -19,6 +20,11 @@ pub fn least_with(section: usize, bytes: &[u8]) -> Vec<u8> {
 
 /// One constant: a unit under so many arrays, maps or pointers.
 pub fn nested(list: u8, levels: usize) -> Vec<u8> {
+    nested_over(list, levels, b"\0")
+}
+
+/// One constant: another one under so many arrays, maps or pointers.
+pub fn nested_over(list: u8, levels: usize, innermost: &[u8]) -> Vec<u8> {
     let mut out = vec![1];
     for _ in 0..levels {
         match list {
@@ -27,7 +33,7 @@ pub fn nested(list: u8, levels: usize) -> Vec<u8> {
             _ => out.extend([0x0d, 1, b'f', 1]),
         }
     }
-    out.push(0x00);
+    out.extend(innermost);
     if list == 0x0d {
         out.resize(out.len() + levels, 0x81);
     }

@@ -1,6 +1,7 @@
 //! Artifacts, written field by field in document 01's order, and with one field that is wrong.
 mod constants;
 pub mod limits;
+pub mod measured;
 mod sections;
 mod writer;
 
@@ -13,11 +14,4 @@ pub fn artifact(seed: u64, fault: Option<Fault>) -> (Vec<u8>, usize) {
     let mut writer = Writer::new(seed, fault);
     sections::artifact(&mut writer);
     writer.done()
-}
-
-/// A stripped artifact with so many records in each section.
-pub fn large(seed: u64, records: usize) -> Vec<u8> {
-    let mut writer = Writer::large(seed, records);
-    sections::artifact(&mut writer);
-    writer.done().0
 }

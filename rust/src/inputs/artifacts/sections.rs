@@ -10,7 +10,7 @@ pub fn artifact(w: &mut Writer) {
     let tops = constants(w);
     section(w, token);
     section(w, assign);
-    section(w, chain);
+    chains(w);
     section(w, |w| switch(w, tops));
     section(w, site);
     w.chunk();
@@ -75,6 +75,10 @@ fn assign(w: &mut Writer) {
     w.index();
     token(w);
     w.index();
+}
+
+pub fn chains(w: &mut Writer) {
+    section(w, chain);
 }
 
 fn chain(w: &mut Writer) {
