@@ -2,3 +2,7 @@
 pub mod Parts
 pub mod Lists
 pub mod Opening
+pub mod Chains
+pub mod Switches
+pub mod Callables
+pub mod Ending

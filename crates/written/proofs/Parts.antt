@@ -40,6 +40,11 @@ pub gives-end : {A B M : Type 0} {mean : B → M} {s : List ℕ} {p : Parser A} 
     Gives itself s p w v → mean (g v) ≡ m → Gives mean s (p >>= (λ v. pure (g v))) w m
 gives-end g {v = v} gp is = gives-last g v gp (λ u e. rw e is)
 
+-- the last one, with tests behind it
+pub gives-ended : {A B M : Type 0} {mean : B → M} {s : List ℕ} {p : Parser A} (f : A → Parser B) {w : List ℕ} {v : A} {m : M} →
+    Gives itself s p w v → Gives mean s (f v) [] m → Gives mean s (p >>= f) w m
+gives-ended f {w} gp gf = rw (← append-nil w) (gives-then f gp gf)
+
 -- ── numbers ──
 
 module _ {s : List ℕ} where
