@@ -6,3 +6,4 @@ pub mod Chains
 pub mod Switches
 pub mod Callables
 pub mod Ending
+pub mod Constants

@@ -26,7 +26,7 @@ gives-themselves g =
 
 -- there is room behind a whole list, so there is behind each of its records
 module _ {M S : Type 0} (next : S → M → S) (Ok : M → Type 0) (Room : S → Type 0) (grows : (used : S) (m : M) → Room (next used m) → Room used) where
-  pub RoomFor : S → M → Type 0
+  abbrev pub RoomFor : S → M → Type 0
   RoomFor used m = Ok m × Room (next used m)
 
   room-before : (ms : List M) (used : S) → Room (foldl next used ms) → Room used
@@ -34,7 +34,6 @@ module _ {M S : Type 0} (next : S → M → S) (Ok : M → Type 0) (Room : S →
   room-before (m ∷ ms) used r = grows used m (room-before ms (next used m) r)
 
   pub room-for-each : (ms : List M) (used : S) → Room (foldl next used ms) → Each Ok ms → EachFrom next RoomFor used ms
-  unfolding RoomFor
   room-for-each [] used r ok = tt
   room-for-each (m ∷ ms) used r ok = ((ok .0, room-before ms (next used m) r), room-for-each ms (next used m) r (ok .1))
 
@@ -57,7 +56,7 @@ module _ {A M : Type 0} (mean : A → M) {s : List ℕ} {p : Parser A} {put : M 
 
   pub gives-records : (ms : List M) (used : ℕ) → used + length ms ≤ places → Each Ok ms →
       Gives (map mean) s (records table places p (length ms) used) (putAll put ms) ms
-  unfolding records RoomFor
+  unfolding records
   gives-records ms used r ok =
       gives-many mean oneMore oneMore _ put (RoomFor oneMore Ok Room grows) (λ used v. refl)
       (λ m used ok. gives-room-then table _ (omega (arith, ok .1)) (one m (ok .0))) ms used
@@ -91,7 +90,7 @@ module _ {A S : Type 0} (next : S → A → S) {s : List ℕ} {p : S → Parser 
       Gives itself s (do
         n ← number 64
         nested next table places p n (record { own = 0; inner = from })) (putList put xs) xs
-  unfolding nested RoomFor
+  unfolding nested
   gives-nested from xs ok r =
       gives-then _ (gives-count (ok .counted)) (gives-themselves
       (gives-many itself (behindOne next) (behindOne next) _ put (RoomFor (behindOne next) Ok Both both-grow) (λ used v. refl)
