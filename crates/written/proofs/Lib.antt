@@ -7,3 +7,4 @@ pub mod Switches
 pub mod Callables
 pub mod Ending
 pub mod Constants
+pub mod Whole
