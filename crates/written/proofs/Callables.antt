@@ -8,10 +8,10 @@ use lib.ListN.{length}
 use lib.Dec.{eqb}
 use borrow.Author.Tests.{le-leb, ne-eqb}
 use Rattle.grammar.specs.Outcome.{pure, _>>=_}
-use Rattle.grammar.specs.Combinators.{if_then_else_}
+use Rattle.grammar.specs.Combinators.{if_then_else_, _⇒_∣_}
 use Rattle.grammar.specs.Number.{index}
 use Rattle.grammar.specs.RoundTrip.{Gives}
-use Rattle.grammar.proofs.RoundTrip.{itself, gives-pure, gives-check-then, gives-tag, gives-other-tag}
+use Rattle.grammar.proofs.RoundTrip.{itself, gives-pure, gives-check-then}
 use Rattle.tables.specs.Table.{With, countItems}
 use Rattle.format.specs.declared.records.NameIndex.{NameIndex}
 use Rattle.format.specs.declared.records.Literal.{Literal}
@@ -53,9 +53,9 @@ gives-customs places inputPlaces us ok =
     gives-nested countItems (λ used. used ≤ inputPlaces) 10 places (λ used u r. omega arith) (gives-site inputPlaces) 0 us (ok .list) (ok .itemRoom)
 
 gives-access : {s : List ℕ} (a : Access) → Gives itself s definition.access (putAccess a) a
-unfolding definition.access
-gives-access Access.Public = gives-ended _ (gives-count (omega arith)) (gives-tag _ 0 (gives-pure _ refl))
-gives-access Access.Private = gives-ended _ (gives-count (omega arith)) (gives-other-tag _ _ 0 1 refl (gives-tag _ 1 (gives-pure _ refl)))
+unfolding definition.access _⇒_∣_
+gives-access Access.Public = gives-ended _ (gives-count (omega arith)) (gives-pure _ refl)
+gives-access Access.Private = gives-ended _ (gives-count (omega arith)) (gives-pure _ refl)
 
 gives-this : {s : List ℕ} (t : ThisType) → FitsThis t → Gives itself s definition.thisType (putThis t) t
 unfolding definition.thisType

@@ -6,8 +6,9 @@ use native.Mathlib.Omega.{arith}
 use lib.ListN.{length}
 use borrow.Author.Tests.{eq-eqb}
 use Rattle.grammar.specs.Outcome.{pure, _>>=_}
+use Rattle.grammar.specs.Combinators.{_⇒_∣_}
 use Rattle.grammar.specs.RoundTrip.{Gives}
-use Rattle.grammar.proofs.RoundTrip.{itself, gives-pure, gives-check-then, gives-byte-then, gives-tag, gives-other-tag}
+use Rattle.grammar.proofs.RoundTrip.{itself, gives-pure, gives-check-then, gives-byte-then}
 use Rattle.tables.specs.Table.{With, countItems}
 use Rattle.format.specs.declared.records.Root.{Root}
 use Rattle.format.specs.declared.records.Tail.{Tail}
@@ -21,37 +22,32 @@ use Rattle.written.proofs.Parts.{gives-then, gives-end, gives-index, gi
 use Rattle.written.proofs.Lists.{gives-themselves, gives-list, gives-nested}
 
 gives-root : {s : List ℕ} (r : Root) → FitsRoot r → Gives itself s definition.root (putRoot r) r
-unfolding definition.root
-gives-root (Root.Local slot name) fits =
-    gives-byte-then _ 1 (gives-tag _ 1 (gives-then _ (gives-small (fits .0)) (gives-end _ (gives-name name (fits .1)) refl)))
-gives-root Root.Temporary fits = gives-byte-then _ 2 (gives-other-tag _ _ 1 2 refl (gives-tag _ 2 (gives-pure _ refl)))
-gives-root (Root.Named name at) fits =
-    gives-byte-then _ 3 (gives-other-tag _ _ 1 3 refl (gives-other-tag _ _ 2 3 refl (gives-tag _ 3
-    (gives-then _ (gives-name name (fits .0)) (gives-end _ (gives-position at (fits .1)) refl)))))
-gives-root (Root.This at) fits =
-    gives-byte-then _ 4 (gives-other-tag _ _ 1 4 refl (gives-other-tag _ _ 2 4 refl (gives-other-tag _ _ 3 4 refl (gives-tag _ 4
-    (gives-end _ (gives-position at fits) refl)))))
+unfolding definition.root _⇒_∣_
+gives-root (Root.Local slot name) fits = gives-byte-then _ 1 (gives-then _ (gives-small (fits .0)) (gives-end _ (gives-name name (fits .1)) refl))
+gives-root Root.Temporary fits = gives-byte-then _ 2 (gives-pure _ refl)
+gives-root (Root.Named name at) fits = gives-byte-then _ 3 (gives-then _ (gives-name name (fits .0)) (gives-end _ (gives-position at (fits .1)) refl))
+gives-root (Root.This at) fits = gives-byte-then _ 4 (gives-end _ (gives-position at fits) refl)
 
 gives-tail : {s : List ℕ} (t : Tail) → FitsTail t → Gives itself s definition.tail (putTail t) t
-unfolding definition.tail
-gives-tail Tail.Read fits = gives-byte-then _ 1 (gives-tag _ 1 (gives-pure _ refl))
-gives-tail Tail.Assign fits = gives-byte-then _ 2 (gives-other-tag _ _ 1 2 refl (gives-tag _ 2 (gives-pure _ refl)))
-gives-tail (Tail.AssignOp op) fits =
-    gives-byte-then _ 3 (gives-other-tag _ _ 1 3 refl (gives-other-tag _ _ 2 3 refl (gives-tag _ 3 (gives-end _ (gives-index fits) refl))))
+unfolding definition.tail _⇒_∣_
+gives-tail Tail.Read fits = gives-byte-then _ 1 (gives-pure _ refl)
+gives-tail Tail.Assign fits = gives-byte-then _ 2 (gives-pure _ refl)
+gives-tail (Tail.AssignOp op) fits = gives-byte-then _ 3 (gives-end _ (gives-index fits) refl)
 
 gives-step : {s : List ℕ} (mask : ℕ) (st : Step) → WellStep mask st → Gives itself s (definition.step mask) (putStep st) st
-unfolding definition.step
+unfolding definition.step _⇒_∣_
 gives-step mask (Step.Index flags operand at bracket) ok =
-    gives-byte-then _ 1 (gives-byte-then _ flags (gives-check-then _ _ (eq-eqb _ _ (ok .masked)) (gives-tag _ 1
-    (gives-then _ (gives-small (ok .fits .1 .0)) (gives-then _ (gives-position at (ok .fits .1 .1 .0)) (gives-end _ (gives-position bracket (ok .fits .1 .1 .1)) refl))))))
+    gives-byte-then _ 1 (gives-byte-then _ flags (gives-check-then _ _ (eq-eqb _ _ (ok .masked))
+    (gives-then _ (gives-small (ok .fits .1 .0)) (gives-then _ (gives-position at (ok .fits .1 .1 .0))
+    (gives-end _ (gives-position bracket (ok .fits .1 .1 .1)) refl)))))
 gives-step mask (Step.Property flags name getter setter at) ok =
-    gives-byte-then _ 2 (gives-byte-then _ flags (gives-check-then _ _ (eq-eqb _ _ (ok .masked)) (gives-other-tag _ _ 1 2 refl (gives-tag _ 2
+    gives-byte-then _ 2 (gives-byte-then _ flags (gives-check-then _ _ (eq-eqb _ _ (ok .masked))
     (gives-then _ (gives-name name (ok .fits .1 .0)) (gives-then _ (gives-name getter (ok .fits .1 .1 .0)) (gives-then _ (gives-name setter (ok .fits .1 .1 .1 .0))
-    (gives-end _ (gives-position at (ok .fits .1 .1 .1 .1)) refl))))))))
+    (gives-end _ (gives-position at (ok .fits .1 .1 .1 .1)) refl))))))
 gives-step mask (Step.Method flags name argc operand at) ok =
-    gives-byte-then _ 3 (gives-byte-then _ flags (gives-check-then _ _ (eq-eqb _ _ (ok .masked)) (gives-other-tag _ _ 1 3 refl (gives-other-tag _ _ 2 3 refl (gives-tag _ 3
+    gives-byte-then _ 3 (gives-byte-then _ flags (gives-check-then _ _ (eq-eqb _ _ (ok .masked))
     (gives-then _ (gives-name name (ok .fits .1 .0)) (gives-byte-then _ argc (gives-then _ (gives-small (ok .fits .1 .1 .1 .0))
-    (gives-end _ (gives-position at (ok .fits .1 .1 .1 .1)) refl)))))))))
+    (gives-end _ (gives-position at (ok .fits .1 .1 .1 .1)) refl))))))
 
 gives-chain : {s : List ℕ} (stepPlaces mask : ℕ) (c : With Chain Step) (used : ℕ) → WellChain mask c → countItems used c ≤ stepPlaces →
     Gives itself s (definition.chain stepPlaces mask used) (putChain c) c

@@ -20,7 +20,7 @@ use Rattle.written.specs.Meaning.{meanText, meanConstant}
 use Rattle.written.specs.Put.{putBytes, putList, putKind, putConstant}
 use Rattle.written.specs.WellFormed.{Counted, WellString, WellKind, WellConstant, WellConstants}
 use Rattle.written.proofs.Parts.{gives-then, gives-end, gives-ended, gives-count, gives-index, gives-signed, gives-bytes, gives-string}
-use Rattle.written.proofs.Lists.{RoomFor, room-for-each}
+use Rattle.written.proofs.Lists.{all-same, RoomFor, room-for-each}
 
 -- ── places ──
 
@@ -62,11 +62,6 @@ behind-more (suc levels) used (A.range from to) = omega arith
 behind-more (suc levels) used (A.rangeInclusive from to) = omega arith
 
 -- a constant and what it means take the same places
-module _ {X M : Type 0} (mean : X → M) (next : ℕ → X → ℕ) (nextOf : ℕ → M → ℕ) (same : (used : ℕ) (v : X) → next used v ≡ nextOf used (mean v)) where
-  all-same : (xs : List X) (used : ℕ) → foldl next used xs ≡ foldl nextOf used (map mean xs)
-  all-same [] used = refl
-  all-same (x ∷ xs) used = rw (same used x) (all-same xs (nextOf used (mean x)))
-
 behind-same : (levels used : ℕ) (c : A.Constant Text levels) → A.behind Text levels used c ≡ behind levels used (meanConstant levels c)
 behind-same zero used c = refl
 behind-same (suc levels) used (A.array items) = all-same (meanConstant levels) (A.behind Text levels) (behind levels) (behind-same levels) items (used + 1)
@@ -84,7 +79,27 @@ behind-same (suc levels) used (A.blob t) = refl
 behind-same (suc levels) used (A.range from to) = refl
 behind-same (suc levels) used (A.rangeInclusive from to) = refl
 
--- ── items, each one level deeper ──
+-- ── what holds no constants ──
+
+gives-kind : {s : List ℕ} (k : A.Kind) → WellKind k → Gives itself s definition.kind (putKind k) k
+unfolding definition.kind _⇒_∣_
+gives-kind A.normal ok = gives-byte-then _ 0x81 (gives-pure _ refl)
+gives-kind (A.script n) ok = gives-byte-then _ 0x82 (gives-end _ (gives-count (ok .below)) refl)
+
+-- a scalar is an index
+scalar-fits : (code : ℕ) → definition.scalar code ≡ true → FitsBits 32 code
+scalar-fits code e = record { below = low (ltb code 0xD800) refl e }
+  where
+    high : (b c : Bool) → ltb code 0x110000 ≡ c → (b && c) ≡ true → code < 2 ^ 32
+    high b true e h = omega (arith, ltb-true code 0x110000 e)
+    high true false e h = absurd (false≢true h)
+    high false false e h = absurd (false≢true h)
+
+    low : (b : Bool) → ltb code 0xD800 ≡ b → (b || (leb 0xE000 code && ltb code 0x110000)) ≡ true → code < 2 ^ 32
+    low true e h = omega (arith, ltb-true code 0xD800 e)
+    low false e h = high (leb 0xE000 code) (ltb code 0x110000) refl h
+
+-- ── a constant, its items one level deeper ──
 
 module _ {s : List ℕ} (places levels : ℕ)
     (deeper : (c : Const levels) (used : ℕ) → WellConstant levels c → behind levels used c ≤ places →
@@ -128,62 +143,43 @@ module _ {s : List ℕ} (places levels : ℕ)
       (λ used entry. behind-same levels used (entry .1)) (λ entry used ok. gives-entry entry used (ok .0) (ok .1)) entries used
       (room-for-each (behindEntry levels) WellEntry Room (λ used entry r. grows used (entry .1) r) entries used r ok)
 
--- ── a constant ──
-
-gives-kind : {s : List ℕ} (k : A.Kind) → WellKind k → Gives itself s definition.kind (putKind k) k
-unfolding definition.kind _⇒_∣_
-gives-kind A.normal ok = gives-byte-then _ 0x81 (gives-pure _ refl)
-gives-kind (A.script n) ok = gives-byte-then _ 0x82 (gives-end _ (gives-count (ok .below)) refl)
-
--- a scalar is an index
-scalar-fits : (code : ℕ) → definition.scalar code ≡ true → FitsBits 32 code
-scalar-fits code e = record { below = low (ltb code 0xD800) refl e }
-  where
-    high : (b c : Bool) → ltb code 0x110000 ≡ c → (b && c) ≡ true → code < 2 ^ 32
-    high b true e h = omega (arith, ltb-true code 0x110000 e)
-    high true false e h = absurd (false≢true h)
-    high false false e h = absurd (false≢true h)
-
-    low : (b : Bool) → ltb code 0xD800 ≡ b → (b || (leb 0xE000 code && ltb code 0x110000)) ≡ true → code < 2 ^ 32
-    low true e h = omega (arith, ltb-true code 0xD800 e)
-    low false e h = high (leb 0xE000 code) (ltb code 0x110000) refl h
+  gives-one : (c : Const (suc levels)) (used : ℕ) → WellConstant (suc levels) c → Room (behind (suc levels) used c) →
+      Gives (meanConstant (suc levels)) s (definition.constant places (suc levels) used) (putConstant (suc levels) c) c
+  unfolding definition.constant _⇒_∣_
+  gives-one A.unit used ok r = gives-room-then 2 _ (omega arith) (gives-byte-then _ 0x00 (gives-pure _ refl))
+  gives-one (A.boolean false) used ok r = gives-room-then 2 _ (omega arith) (gives-byte-then _ 0x01 (gives-pure _ refl))
+  gives-one (A.boolean true) used ok r = gives-room-then 2 _ (omega arith) (gives-byte-then _ 0x02 (gives-pure _ refl))
+  gives-one (A.int n) used ok r = gives-room-then 2 _ (omega arith) (gives-byte-then _ 0x03 (gives-end _ (gives-signed ok) refl))
+  gives-one (A.float bits) used ok r =
+      gives-room-then 2 _ (omega arith) (gives-byte-then _ 0x04 (gives-end _ (gives-fixed 8 bits (omega (arith, ok .below))) refl))
+  gives-one (A.char code) used ok r =
+      gives-room-then 2 _ (omega arith) (gives-byte-then _ 0x05 (gives-ended _ (gives-index (scalar-fits code ok)) (gives-check-then _ _ ok (gives-pure _ refl))))
+  gives-one (A.str t) used ok r =
+      gives-room-then 2 _ (omega arith) (gives-byte-then _ 0x06 (gives-last _ t (gives-string t ok) (λ x e. ap A.str e)))
+  gives-one (A.array items) used ok r =
+      gives-room-then 2 _ (omega (arith, all-more (behind levels) (behind-more levels) items (used + 1)))
+      (gives-byte-then _ 0x07 (gives-then _ (gives-count (ok .0)) (gives-last _ items (gives-items items (used + 1) (ok .1) r) (λ xs e. ap A.array e))))
+  gives-one (A.map entries) used ok r =
+      gives-room-then 2 _ (omega (arith, all-more (behindEntry levels) (λ used entry. behind-more levels used (entry .1)) entries (used + 1)))
+      (gives-byte-then _ 0x08 (gives-then _ (gives-count (ok .0)) (gives-last _ entries (gives-entries entries (used + 1) (ok .1) r) (λ xs e. ap A.map e))))
+  gives-one (A.blob t) used ok r =
+      gives-room-then 2 _ (omega arith) (gives-byte-then _ 0x09 (gives-last _ t (gives-bytes t ok) (λ x e. ap A.blob e)))
+  gives-one (A.range from to) used ok r =
+      gives-room-then 2 _ (omega arith) (gives-byte-then _ 0x0A (gives-then _ (gives-signed (ok .0)) (gives-end _ (gives-signed (ok .1)) refl)))
+  gives-one (A.rangeInclusive from to) used ok r =
+      gives-room-then 2 _ (omega arith) (gives-byte-then _ 0x0B (gives-then _ (gives-signed (ok .0)) (gives-end _ (gives-signed (ok .1)) refl)))
+  gives-one (A.pointer name curried kind) used ok r =
+      gives-room-then 2 _ (omega (arith, all-more (behind levels) (behind-more levels) curried (used + 1)))
+      (gives-byte-then _ 0x0D (gives-bind meanText _ _ _ name (gives-string name (ok .0)) (λ x e.
+      rw (append-assoc (shortest (length curried)) (putAll (putConstant levels) curried) (putKind kind))
+      (gives-then _ (gives-count (ok .1 .0 .0))
+      (gives-bind (map (meanConstant levels)) _ _ _ curried (gives-items curried (used + 1) (ok .1 .0 .1) r) (λ xs f.
+      gives-end _ (gives-kind kind (ok .1 .1)) (rw (e, f))))))))
 
 gives-constant : {s : List ℕ} (places levels : ℕ) (c : Const levels) (used : ℕ) → WellConstant levels c → behind levels used c ≤ places →
     Gives (meanConstant levels) s (definition.constant places levels used) (putConstant levels c) c
-unfolding definition.constant _⇒_∣_
-gives-constant places zero c used ok r = absurd c
-gives-constant places (suc levels) A.unit used ok r = gives-room-then 2 _ (omega arith) (gives-byte-then _ 0x00 (gives-pure _ refl))
-gives-constant places (suc levels) (A.boolean false) used ok r = gives-room-then 2 _ (omega arith) (gives-byte-then _ 0x01 (gives-pure _ refl))
-gives-constant places (suc levels) (A.boolean true) used ok r = gives-room-then 2 _ (omega arith) (gives-byte-then _ 0x02 (gives-pure _ refl))
-gives-constant places (suc levels) (A.int n) used ok r = gives-room-then 2 _ (omega arith) (gives-byte-then _ 0x03 (gives-end _ (gives-signed ok) refl))
-gives-constant places (suc levels) (A.float bits) used ok r =
-    gives-room-then 2 _ (omega arith) (gives-byte-then _ 0x04 (gives-end _ (gives-fixed 8 bits (omega (arith, ok .below))) refl))
-gives-constant places (suc levels) (A.char code) used ok r =
-    gives-room-then 2 _ (omega arith) (gives-byte-then _ 0x05 (gives-ended _ (gives-index (scalar-fits code ok)) (gives-check-then _ _ ok (gives-pure _ refl))))
-gives-constant places (suc levels) (A.str t) used ok r =
-    gives-room-then 2 _ (omega arith) (gives-byte-then _ 0x06 (gives-last _ t (gives-string t ok) (λ x e. ap A.str e)))
-gives-constant places (suc levels) (A.array items) used ok r =
-    let inner = gives-constant places levels in
-    gives-room-then 2 _ (omega (arith, all-more (behind levels) (behind-more levels) items (used + 1)))
-    (gives-byte-then _ 0x07 (gives-then _ (gives-count (ok .0)) (gives-last _ items (gives-items places levels inner items (used + 1) (ok .1) r) (λ xs e. ap A.array e))))
-gives-constant places (suc levels) (A.map entries) used ok r =
-    let inner = gives-constant places levels in
-    gives-room-then 2 _ (omega (arith, all-more (behindEntry levels) (λ used entry. behind-more levels used (entry .1)) entries (used + 1)))
-    (gives-byte-then _ 0x08 (gives-then _ (gives-count (ok .0)) (gives-last _ entries (gives-entries places levels inner entries (used + 1) (ok .1) r) (λ xs e. ap A.map e))))
-gives-constant places (suc levels) (A.blob t) used ok r =
-    gives-room-then 2 _ (omega arith) (gives-byte-then _ 0x09 (gives-last _ t (gives-bytes t ok) (λ x e. ap A.blob e)))
-gives-constant places (suc levels) (A.range from to) used ok r =
-    gives-room-then 2 _ (omega arith) (gives-byte-then _ 0x0A (gives-then _ (gives-signed (ok .0)) (gives-end _ (gives-signed (ok .1)) refl)))
-gives-constant places (suc levels) (A.rangeInclusive from to) used ok r =
-    gives-room-then 2 _ (omega arith) (gives-byte-then _ 0x0B (gives-then _ (gives-signed (ok .0)) (gives-end _ (gives-signed (ok .1)) refl)))
-gives-constant places (suc levels) (A.pointer name curried kind) used ok r =
-    let inner = gives-constant places levels in
-    gives-room-then 2 _ (omega (arith, all-more (behind levels) (behind-more levels) curried (used + 1)))
-    (gives-byte-then _ 0x0D (gives-bind meanText _ _ _ name (gives-string name (ok .0)) (λ x e.
-    rw (append-assoc (shortest (length curried)) (putAll (putConstant levels) curried) (putKind kind))
-    (gives-then _ (gives-count (ok .1 .0 .0))
-    (gives-bind (map (meanConstant levels)) _ _ _ curried (gives-items places levels inner curried (used + 1) (ok .1 .0 .1) r) (λ xs f.
-    gives-end _ (gives-kind kind (ok .1 .1)) (rw (e, f))))))))
+gives-constant places zero c = absurd c
+gives-constant places (suc levels) c = gives-one places levels (gives-constant places levels) c
 
 pub gives-constants : {s : List ℕ} (places : ℕ) (cs : List (Const A.levels)) → WellConstants places cs →
     Gives (map (meanConstant A.levels)) s (definition.constants places) (putList (putConstant A.levels) cs) cs

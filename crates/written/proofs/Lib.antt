@@ -8,3 +8,4 @@ pub mod Callables
 pub mod Ending
 pub mod Constants
 pub mod Whole
+pub mod Stripped

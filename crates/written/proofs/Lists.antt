@@ -15,6 +15,10 @@ use Rattle.written.specs.Put.{putList}
 use Rattle.written.specs.WellFormed.{Counted, WellList}
 use Rattle.written.proofs.Parts.{gives-then, gives-count}
 
+pub length-map : {X Y : Type 0} (f : X → Y) (xs : List X) → length (map f xs) ≡ length xs
+length-map f [] = refl
+length-map f (x ∷ xs) = ap suc (length-map f xs)
+
 -- a list of what means itself means itself
 map-itself : {A : Type 0} (xs : List A) → map itself xs ≡ xs
 map-itself [] = refl
@@ -23,6 +27,12 @@ map-itself (x ∷ xs) = ap (λ l. x ∷ l) (map-itself xs)
 pub gives-themselves : {A : Type 0} {s w : List ℕ} {p : Parser (List A)} {xs : List A} → Gives (map itself) s p w xs → Gives itself s p w xs
 gives-themselves g =
     record { reads = λ c h. let r = g .reads c h in record { value = r .value; means = sym (map-itself (r .value)) ∙ r .means; result = r .result } }
+
+-- a list and what it means take the same places where each record does
+module _ {X M S : Type 0} (mean : X → M) (next : S → X → S) (nextOf : S → M → S) (same : (used : S) (v : X) → next used v ≡ nextOf used (mean v)) where
+  pub all-same : (xs : List X) (used : S) → foldl next used xs ≡ foldl nextOf used (map mean xs)
+  all-same [] used = refl
+  all-same (x ∷ xs) used = rw (same used x) (all-same xs (nextOf used (mean x)))
 
 -- there is room behind a whole list, so there is behind each of its records
 module _ {M S : Type 0} (next : S → M → S) (Ok : M → Type 0) (Room : S → Type 0) (grows : (used : S) (m : M) → Room (next used m) → Room used) where

@@ -14,16 +14,13 @@ use Rattle.written.specs.Meaning.{Meaning, meanText, meanNames, meanCons
 use Rattle.written.specs.Put.{put}
 use Rattle.written.specs.WellFormed.{WellSwitches, WellFormed}
 use Rattle.written.proofs.Parts.{gives-then, gives-bytes, gives-string, gives-chunk}
+use Rattle.written.proofs.Lists.{length-map}
 use Rattle.written.proofs.Opening.{gives-header, gives-names, gives-tokens, gives-assigns}
 use Rattle.written.proofs.Constants.{gives-constants}
 use Rattle.written.proofs.Chains.{gives-chains}
 use Rattle.written.proofs.Switches.{gives-switches}
 use Rattle.written.proofs.Callables.{gives-customs, gives-functions}
 use Rattle.written.proofs.Ending.{gives-positions}
-
-length-map : {X Y : Type 0} (f : X → Y) (xs : List X) → length (map f xs) ≡ length xs
-length-map f [] = refl
-length-map f (x ∷ xs) = ap suc (length-map f xs)
 
 pub writes-artifact : (P : A.Places) (mask : ℕ) → W.Writes mean (definition.artifact P mask) (WellFormed P mask) put
 unfolding definition.artifact put

@@ -2,3 +2,4 @@
 pub mod Meaning
 pub mod Put
 pub mod WellFormed
+pub mod Strip
