@@ -1,5 +1,5 @@
 -- What a parser gives of some bytes always has: a law that composes, as the prefix law does.
-use Prim.Native.Nat.{ℕ, zero, suc}
+use Prim.Native.Nat.{ℕ, zero, suc, _<_}
 use mathlib.Core.Path.{_≡_, refl, sym}
 use mathlib.Core.Bool.{Bool, true, false}
 use mathlib.Core.List.{List, foldl}
@@ -7,10 +7,10 @@ use lib.Dec.{eqb}
 use Rattle.refusal.specs.declared.Refusal.{Refusal}
 use Rattle.refusal.specs.declared.Place.{Place}
 use Rattle.grammar.specs.declared.Cursor.{Cursor}
-use Rattle.grammar.specs.Outcome.{got, Parser, pure, refuse, _>>=_}
-use Rattle.grammar.specs.Combinators.{if_then_else_, check, _⇒_∣_, unknown, many, Each}
+use Rattle.grammar.specs.Outcome.{got, Parser, pure, refuse, _>>=_, _>>_}
+use Rattle.grammar.specs.Combinators.{if_then_else_, check, room, _⇒_∣_, unknown, many, Each}
 use Rattle.grammar.proofs.Outcome.{got-ne-refused, got-value, bind-got}
-use Rattle.tables.proofs.Fitting.{many-keeps}
+use Rattle.tables.proofs.Fitting.{many-keeps, had-place}
 
 pub record Leaves {A : Type 0} (s : List ℕ) (p : Parser A) (Ok : A → Type 0) : Type 0 where
   pub always : (c : Cursor) (v : A) (next : Cursor) → p s c ≡ got v next → Ok v
@@ -44,6 +44,15 @@ module _ {s : List ℕ} where
   unfolding check
   leaves-check true r f rest = leaves-bind _ _ (λ _. rest refl)
   leaves-check false r f rest = leaves-then f {First = λ _. ⊥} (leaves-refuse r) (λ _ no. absurd no)
+
+  -- a record behind the test for a free place
+  pub leaves-room : {A : Type 0} (table places used : ℕ) {p : Parser A} {Ok : A → Type 0} → (used < places → Leaves s p Ok) → Leaves s (room table places used >> p) Ok
+  leaves-room table places used {p} rest =
+      record {
+        always = λ c v next e.
+            let had = had-place table places used p s c v next e in
+            rest (had .0) .always c v next (had .1);
+      }
 
   pub leaves-tag : {A : Type 0} (k : ℕ) {p : Parser A} (others : ℕ → Parser A) (tag : ℕ) {Ok : A → Type 0} → Leaves s p Ok → Leaves s (others tag) Ok →
       Leaves s ((k ⇒ p ∣ others) tag) Ok

@@ -13,20 +13,11 @@ use Rattle.grammar.specs.declared.Cursor.{Cursor}
 use Rattle.grammar.specs.Outcome.{Outcome, got, refused, Parser, pure, _>>=_, _>>_}
 use Rattle.grammar.specs.Combinators.{Text, check, room, many}
 use Rattle.tables.specs.Table.{Used, behindOne, records, nested, With, countItems}
-use Rattle.tables.proofs.Fitting.{had-place, records-fit, nested-fit}
+use Rattle.tables.proofs.Fitting.{records-fit, nested-fit}
 use Rattle.format.specs.Artifact as A
 use Rattle.format.specs.File as definition
 use Rattle.reading.proofs.Telling.{behind-all}
-use Rattle.leaves.proofs.Leaves.{Leaves, leaves-pure, leaves-refuse, leaves-then, leaves-bind, leaves-tag, leaves-unknown, leaves-many}
-
--- a record behind the test for a free place
-leaves-room : {s : List ℕ} {X : Type 0} (table places used : ℕ) {p : Parser X} {Ok : X → Type 0} → (used < places → Leaves s p Ok) → Leaves s (room table places used >> p) Ok
-leaves-room {s} table places used {p} rest =
-    record {
-      always = λ c v next e.
-          let had = had-place table places used p s c v next e in
-          rest (had .0) .always c v next (had .1);
-    }
+use Rattle.leaves.proofs.Leaves.{Leaves, leaves-pure, leaves-refuse, leaves-then, leaves-bind, leaves-room, leaves-tag, leaves-unknown, leaves-many}
 
 -- ── lists of one table ──
 

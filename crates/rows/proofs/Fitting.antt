@@ -59,14 +59,14 @@ signed-fits (negsuc n) h = record { sfits = omega arith }
 -- ── what is read of any bytes ──
 
 module _ {s : List ℕ} where
-  leaves-number : (bits : ℕ) → Leaves s (number bits) (FitsBits bits)
+  pub leaves-number : (bits : ℕ) → Leaves s (number bits) (FitsBits bits)
   leaves-number bits = record { always = λ c v next e. record { below = number-below bits s c v next e } }
 
-  leaves-signed : Leaves s signed (SFits w64)
+  pub leaves-signed : Leaves s signed (SFits w64)
   unfolding signed
   leaves-signed = leaves-then _ (leaves-number 64) (λ u h. leaves-pure _ (signed-fits (unzigzag u) (rw (zigzag-unzigzag u) (h .below))))
 
-  leaves-name : Leaves s definition.nameIndex FitsName
+  pub leaves-name : Leaves s definition.nameIndex FitsName
   unfolding definition.nameIndex
   leaves-name = leaves-then _ (leaves-number 32) (λ n h. leaves-pure _ h)
 
@@ -74,7 +74,7 @@ module _ {s : List ℕ} where
   unfolding definition.position
   leaves-position = leaves-then _ (leaves-number 16) (λ line l. leaves-then _ (leaves-number 16) (λ column k. leaves-pure _ (placed-fits line column l k)))
 
-  leaves-chunk : Leaves s definition.chunk FitsChunk
+  pub leaves-chunk : Leaves s definition.chunk FitsChunk
   unfolding definition.chunk
   leaves-chunk =
       leaves-then _ (leaves-number 32) (λ entry a. leaves-then _ (leaves-number 32) (λ end b. leaves-then _ (leaves-number 16) (λ slots c.
@@ -92,13 +92,13 @@ module _ {s : List ℕ} where
 
   -- ── records ──
 
-  leaves-assign : Leaves s definition.assign FitsAssign
+  pub leaves-assign : Leaves s definition.assign FitsAssign
   unfolding definition.assign
   leaves-assign =
       leaves-bind _ _ (λ opAssign. leaves-then _ leaves-name (λ opAssignName a. leaves-bind _ _ (λ op. leaves-then _ leaves-name (λ opName b.
       leaves-pure _ (record { opAssignName = a; opName = b })))))
 
-  leaves-root : Leaves s definition.root FitsRoot
+  pub leaves-root : Leaves s definition.root FitsRoot
   unfolding definition.root
   leaves-root =
       leaves-bind _ _ (λ tag.
@@ -108,7 +108,7 @@ module _ {s : List ℕ} where
       (leaves-tag _ _ _ (leaves-then _ leaves-position (λ at a. leaves-pure _ a))
       (leaves-unknown _ _)))))
 
-  leaves-tail : Leaves s definition.tail FitsTail
+  pub leaves-tail : Leaves s definition.tail FitsTail
   unfolding definition.tail
   leaves-tail =
       leaves-bind _ _ (λ tag.
@@ -123,7 +123,7 @@ module _ {s : List ℕ} where
       leaves-then _ (leaves-number 32) (λ blocks a. leaves-bind _ _ (λ at. leaves-then _ (leaves-number 32) (λ k b. leaves-bind _ _ (λ _.
       leaves-pure _ (record { blocks = a; constant = b })))))
 
-  leaves-range : Leaves s definition.caseRange FitsRange
+  pub leaves-range : Leaves s definition.caseRange FitsRange
   unfolding definition.caseRange
   leaves-range =
       leaves-then _ leaves-signed (λ from a. leaves-then _ leaves-signed (λ to b. leaves-bind _ _ (λ inclusive. leaves-then _ (leaves-number 32) (λ target c.
@@ -137,7 +137,7 @@ module _ {s : List ℕ} where
       leaves-then _ (leaves-list _ _ _ (leaves-case tops)) (λ cases a. leaves-then _ (leaves-list _ _ _ leaves-range) (λ ranges b.
       leaves-then _ (leaves-number 32) (λ default c. leaves-pure _ (record { whole = c; cases = a; ranges = b }))))))
 
-  leaves-input : Leaves s definition.input FitsInput
+  pub leaves-input : Leaves s definition.input FitsInput
   unfolding definition.input
   leaves-input =
       leaves-then _ leaves-chunk (λ c a. leaves-then _ (leaves-number 32) (λ literal b.
@@ -150,7 +150,7 @@ module _ {s : List ℕ} where
       leaves-then _ (leaves-number 32) (λ key a. leaves-then _ (leaves-number 32) (λ state b. leaves-then _ (leaves-list _ _ _ leaves-input) (λ inputs c.
       leaves-pure _ (record { whole = record { key = a; state = b }; items = c }))))))
 
-  leaves-this : Leaves s definition.thisType FitsThis
+  pub leaves-this : Leaves s definition.thisType FitsThis
   unfolding definition.thisType
   leaves-this = leaves-bind _ _ (λ n. leaves-check _ _ _ (λ e. leaves-pure _ (this-fits n (leb-true _ _ e))))
 
@@ -165,7 +165,7 @@ module _ {s : List ℕ} where
 -- ── what is read of bytes: flags and argument counts are bytes as they stand ──
 
 module _ {s : List ℕ} (bytes : Bytes s) where
-  leaves-byte : Leaves s byte (FitsBits 8)
+  pub leaves-byte : Leaves s byte (FitsBits 8)
   unfolding byte taking
   leaves-byte = record { always = λ c v next e. go c v next (enough 1 s c) e }
     where
@@ -174,7 +174,7 @@ module _ {s : List ℕ} (bytes : Bytes s) where
       go c v next true e = record { below = rw (← got-value e) (bytes (c .at)) }
       go c v next false e = absurd (got-ne-refused (sym e))
 
-  leaves-step : (mask : ℕ) → Leaves s (definition.step mask) FitsStep
+  pub leaves-step : (mask : ℕ) → Leaves s (definition.step mask) FitsStep
   unfolding definition.step
   leaves-step mask =
       leaves-bind _ _ (λ tag. leaves-then _ leaves-byte (λ flags f. leaves-bind _ _ (λ _.

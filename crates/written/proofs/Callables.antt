@@ -21,9 +21,9 @@ use Rattle.format.specs.declared.records.Access.{Access}
 use Rattle.format.specs.declared.records.ThisType.{ThisType}
 use Rattle.format.specs.declared.records.Function.{Function}
 use Rattle.format.specs.File as definition
-use Rattle.rows.specs.Fits.{FitsName, FitsLiteral, FitsInput, FitsSite, FitsThis, FitsFunction}
+use Rattle.rows.specs.Fits.{FitsLiteral, FitsInput, FitsThis}
 use Rattle.written.specs.Put.{putList, putLiteral, putInput, putSite, putAccess, putThis, putFunction}
-use Rattle.written.specs.WellFormed.{WellItems, WellWith}
+use Rattle.written.specs.WellFormed.{WellWith, WellSite, WellFunction}
 use Rattle.written.proofs.Parts.{gives-then, gives-end, gives-ended, gives-count, gives-index, gives-name, gives-chunk}
 use Rattle.written.proofs.Lists.{gives-themselves, gives-list, gives-nested}
 
@@ -39,7 +39,7 @@ gives-input {s} i fits = gives-then _ (gives-chunk (i .chunk) (fits .chunk)) (li
     literal Literal.Absent fits = gives-end _ (gives-index (record { below = omega arith })) refl
     literal (Literal.Present n) fits = gives-end _ (gives-index (record { below = omega arith })) (rw (ne-eqb n 0xFFFFFFFF (omega arith)))
 
-gives-site : {s : List ℕ} (inputPlaces : ℕ) (u : With Site Input) (used : ℕ) → WellItems FitsSite (λ u. u .inputs) FitsInput u →
+gives-site : {s : List ℕ} (inputPlaces : ℕ) (u : With Site Input) (used : ℕ) → WellSite u →
     countItems used u ≤ inputPlaces → Gives itself s (definition.site inputPlaces used) (putSite u) u
 unfolding definition.site
 gives-site inputPlaces u used ok room =
@@ -47,7 +47,7 @@ gives-site inputPlaces u used ok room =
     (gives-end _ (gives-themselves (gives-list itself 11 inputPlaces gives-input (u .items) used (ok .counted) room (ok .fits .items))) (rw (← ok .says))))
 
 pub gives-customs : {s : List ℕ} (places inputPlaces : ℕ) (us : List (With Site Input)) →
-    WellWith places inputPlaces (WellItems FitsSite (λ u. u .inputs) FitsInput) us → Gives itself s (definition.customs places inputPlaces) (putList putSite us) us
+    WellWith places inputPlaces WellSite us → Gives itself s (definition.customs places inputPlaces) (putList putSite us) us
 unfolding definition.customs
 gives-customs places inputPlaces us ok =
     gives-nested countItems (λ used. used ≤ inputPlaces) 10 places (λ used u r. omega arith) (gives-site inputPlaces) 0 us (ok .list) (ok .itemRoom)
@@ -65,7 +65,7 @@ gives-this (ThisType.Typed n) fits =
     gives-ended _ (gives-count (omega (arith, fits .below))) (gives-check-then _ _ (le-leb (n + 1) (2 ^ 32) (omega (arith, fits .below)))
     (gives-pure _ (rw (ne-eqb (n + 1) 0 (omega arith), back))))
 
-gives-function : {s : List ℕ} (parameterPlaces : ℕ) (f : With Function NameIndex) (used : ℕ) → WellItems FitsFunction (λ f. f .parameters) FitsName f →
+gives-function : {s : List ℕ} (parameterPlaces : ℕ) (f : With Function NameIndex) (used : ℕ) → WellFunction f →
     countItems used f ≤ parameterPlaces → Gives itself s (definition.function parameterPlaces used) (putFunction f) f
 unfolding definition.function
 gives-function parameterPlaces f used ok room =
@@ -75,7 +75,7 @@ gives-function parameterPlaces f used ok room =
     (gives-end _ (gives-chunk (f .whole .chunk) (ok .fits .whole .chunk)) (rw (← ok .says))))))
 
 pub gives-functions : {s : List ℕ} (places parameterPlaces : ℕ) (fs : List (With Function NameIndex)) →
-    WellWith places parameterPlaces (WellItems FitsFunction (λ f. f .parameters) FitsName) fs → Gives itself s (definition.functions places parameterPlaces) (putList putFunction fs) fs
+    WellWith places parameterPlaces WellFunction fs → Gives itself s (definition.functions places parameterPlaces) (putList putFunction fs) fs
 unfolding definition.functions
 gives-functions places parameterPlaces fs ok =
     gives-nested countItems (λ used. used ≤ parameterPlaces) 12 places (λ used f r. omega arith) (gives-function parameterPlaces) 0 fs (ok .list) (ok .itemRoom)

@@ -9,3 +9,5 @@ pub mod Ending
 pub mod Constants
 pub mod Whole
 pub mod Stripped
+pub mod Leaving
+pub mod Accepted

@@ -20,7 +20,7 @@ length-map f [] = refl
 length-map f (x ∷ xs) = ap suc (length-map f xs)
 
 -- a list of what means itself means itself
-map-itself : {A : Type 0} (xs : List A) → map itself xs ≡ xs
+pub map-itself : {A : Type 0} (xs : List A) → map itself xs ≡ xs
 map-itself [] = refl
 map-itself (x ∷ xs) = ap (λ l. x ∷ l) (map-itself xs)
 
@@ -49,10 +49,10 @@ module _ {M S : Type 0} (next : S → M → S) (Ok : M → Type 0) (Room : S →
 
 -- ── records of one table ──
 
-abbrev oneMore : {M : Type 0} → ℕ → M → ℕ
+abbrev pub oneMore : {M : Type 0} → ℕ → M → ℕ
 oneMore used m = used + 1
 
-behind-all : {M : Type 0} (ms : List M) (used : ℕ) → foldl oneMore used ms ≡ used + length ms
+pub behind-all : {M : Type 0} (ms : List M) (used : ℕ) → foldl oneMore used ms ≡ used + length ms
 behind-all [] used = omega arith
 behind-all (m ∷ ms) used = behind-all ms (used + 1) ∙ omega arith
 
@@ -82,19 +82,27 @@ module _ {A M : Type 0} (mean : A → M) {s : List ℕ} {p : Parser A} {put : M 
 
 -- ── records with items that stand in tables of their own ──
 
+-- room in the records' table, and in those of their items
+pub record Both {S : Type 0} (places : ℕ) (Room : S → Type 0) (used : Used S) : Type 0 where
+  pub own : used .own ≤ places
+  pub inner : Room (used .inner)
+
+module _ {A S : Type 0} (next : S → A → S) (Room : S → Type 0) (places : ℕ) where
+  both-behind : (xs : List A) (used : Used S) → used .own + length xs ≤ places → Room (foldl next (used .inner) xs) →
+      Both places Room (foldl (behindOne next) used xs)
+  both-behind [] used h r = record { own = omega arith; inner = r }
+  both-behind (x ∷ xs) used h r = both-behind xs (behindOne next used x) (omega arith) r
+
+  pub both-before : (xs : List A) (used : Used S) → Both places Room (foldl (behindOne next) used xs) →
+      (used .own + length xs ≤ places) × Room (foldl next (used .inner) xs)
+  both-before [] used r = (omega (arith, r .own), r .inner)
+  both-before (x ∷ xs) used r = let b = both-before xs (behindOne next used x) r in (omega (arith, b .0), b .1)
+
 module _ {A S : Type 0} (next : S → A → S) {s : List ℕ} {p : S → Parser A} {put : A → List ℕ} {Ok : A → Type 0} (Room : S → Type 0) (table places : ℕ)
     (grows : (inner : S) (x : A) → Room (next inner x) → Room inner)
     (one : (x : A) (inner : S) → Ok x → Room (next inner x) → Gives itself s (p inner) (put x) x) where
-  record Both (used : Used S) : Type 0 where
-    own : used .own ≤ places
-    inner : Room (used .inner)
-
-  both-grow : (used : Used S) (x : A) → Both (behindOne next used x) → Both used
+  both-grow : (used : Used S) (x : A) → Both places Room (behindOne next used x) → Both places Room used
   both-grow used x r = record { own = omega (arith, r .own); inner = grows (used .inner) x (r .inner) }
-
-  both-behind : (xs : List A) (used : Used S) → used .own + length xs ≤ places → Room (foldl next (used .inner) xs) → Both (foldl (behindOne next) used xs)
-  both-behind [] used h r = record { own = omega arith; inner = r }
-  both-behind (x ∷ xs) used h r = both-behind xs (behindOne next used x) (omega arith) r
 
   pub gives-nested : (from : S) (xs : List A) → WellList places Ok xs → Room (foldl next from xs) →
       Gives itself s (do
@@ -103,6 +111,6 @@ module _ {A S : Type 0} (next : S → A → S) {s : List ℕ} {p : S → Parser 
   unfolding nested
   gives-nested from xs ok r =
       gives-then _ (gives-count (ok .counted)) (gives-themselves
-      (gives-many itself (behindOne next) (behindOne next) _ put (RoomFor (behindOne next) Ok Both both-grow) (λ used v. refl)
+      (gives-many itself (behindOne next) (behindOne next) _ put (RoomFor (behindOne next) Ok (Both places Room) both-grow) (λ used v. refl)
       (λ x used ok. gives-room-then table _ (omega (arith, ok .1 .own)) (one x (used .inner) (ok .0) (ok .1 .inner))) xs (record { own = 0; inner = from })
-      (room-for-each (behindOne next) Ok Both both-grow xs _ (both-behind xs _ (omega (arith, ok .room)) r) (ok .each))))
+      (room-for-each (behindOne next) Ok (Both places Room) both-grow xs _ (both-behind next Room places xs _ (omega (arith, ok .room)) r) (ok .each))))

@@ -14,11 +14,13 @@ use Rattle.utf8.specs.Check.{isUtf8}
 use Rattle.pos.specs.declared.Checked.{Checked}
 use Rattle.pos.specs.Table.{checked}
 use Rattle.tables.specs.Table.{With, countItems}
+use Rattle.format.specs.declared.records.NameIndex.{NameIndex}
 use Rattle.format.specs.declared.records.Chain.{Chain}
 use Rattle.format.specs.declared.records.Step.{Step}
 use Rattle.format.specs.declared.records.Case.{Case}
-use Rattle.format.specs.declared.records.Function.{Function}
+use Rattle.format.specs.declared.records.Input.{Input}
 use Rattle.format.specs.declared.records.Site.{Site}
+use Rattle.format.specs.declared.records.Function.{Function}
 use Rattle.format.specs.Artifact as A
 use Rattle.format.specs.File.{rising, lastEnd, scalar}
 use Rattle.rows.specs.Fits.{FitsBits, FitsName, FitsChunk, FitsAssign, FitsChain, FitsStep, FitsSwitch, FitsCase, FitsRange, FitsSite, FitsInput, FitsFunction, Throughout, ThroughoutCases}
@@ -130,6 +132,12 @@ pub record WellSwitches (places casePlaces rangePlaces tops : ℕ) (ws : List A.
   pub list : WellList places (WellSwitch tops) ws
   pub itemRoom : CaseRoom casePlaces rangePlaces (foldl A.countCases (record { cases = 0; ranges = 0 }) ws)
 
+abbrev pub WellSite : With Site Input → Type 0
+WellSite = WellItems FitsSite (λ u. u .inputs) FitsInput
+
+abbrev pub WellFunction : With Function NameIndex → Type 0
+WellFunction = WellItems FitsFunction (λ f. f .parameters) FitsName
+
 -- a position table is empty or checks
 pub record WellPositions (t : List ℕ) : Type 0 where
   pub counted : Counted t
@@ -144,8 +152,8 @@ pub record WellFormed (places : A.Places) (mask : ℕ) (m : Meaning) : Type 0 wh
   pub assigns : WellList (places .assigns) WellAssign (m .assigns)
   pub chains : WellWith (places .chains) (places .steps) (WellChain mask) (m .chains)
   pub switches : WellSwitches (places .switches) (places .cases) (places .ranges) (length (m .constants)) (m .switches)
-  pub customs : WellWith (places .customs) (places .inputs) (WellItems FitsSite (λ u. u .inputs) FitsInput) (m .customs)
+  pub customs : WellWith (places .customs) (places .inputs) WellSite (m .customs)
   pub main : FitsChunk (m .main)
-  pub functions : WellWith (places .functions) (places .parameters) (WellItems FitsFunction (λ f. f .parameters) FitsName) (m .functions)
+  pub functions : WellWith (places .functions) (places .parameters) WellFunction (m .functions)
   pub code : Counted (m .code)
   pub positions : WellPositions (m .positions)
