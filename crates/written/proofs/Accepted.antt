@@ -32,6 +32,7 @@ use Rattle.rows.proofs.Fitting.{leaves-number, leaves-signed, leaves-name, leav
 use Rattle.written.specs.Meaning.{meanText, meanNames, meanConstant, meanAssign, mean}
 use Rattle.written.specs.WellFormed.{WellString, WellList, WellWith, WellSite, WellFunction, WellHeader, WellNames, WellAssign, flagsOf, WellStep, WellChain, WellCase, WellSwitch, CaseRoom, WellSwitches, WellPositions, WellFormed}
 use Rattle.written.proofs.Lists.{length-map, map-itself}
+use Rattle.written.proofs.Trees.{leaves-constants}
 use Rattle.written.proofs.Leaving.{leaves-fixed, Taken, leaves-bytes, leaves-string, Listed, leaves-records, whole-list, leaves-top, leaves-items, leaves-nested}
 
 -- ── header, names, tokens, assign records ──
@@ -183,3 +184,34 @@ empty-or-sound t taken e = record { counted = taken .counted; sound = go (eqb (t
 leaves-positions : {s : List ℕ} → Leaves s definition.positions (λ t. WellPositions (meanText t))
 unfolding definition.positions
 leaves-positions = leaves-then _ leaves-bytes (λ t taken. leaves-sound _ _ (λ e. leaves-pure _ (empty-or-sound t taken e)))
+
+-- ── the whole ──
+
+module _ (P : A.Places) (mask : ℕ) (s : List ℕ) (bytes : Bytes s) where
+  leaves-artifact : Leaves s (definition.artifact P mask) (λ a. WellFormed P mask (mean a))
+  unfolding definition.artifact
+  leaves-artifact =
+      leaves-then _ (leaves-header bytes) (λ header h. leaves-then _ leaves-string (λ source a. leaves-then _ (leaves-names (P .names)) (λ ns b.
+      leaves-then _ (leaves-constants bytes (P .constants)) (λ cs c. leaves-then _ (leaves-tokens (P .tokens)) (λ ts d.
+      leaves-then _ (leaves-assigns (P .assigns)) (λ os e. leaves-then _ (leaves-chains bytes mask (P .chains) (P .steps)) (λ ls f.
+      leaves-then _ (leaves-switches (P .switches) (P .cases) (P .ranges) (length cs)) (λ ws g.
+      leaves-then _ (leaves-customs (P .customs) (P .inputs)) (λ us i. leaves-then _ leaves-chunk (λ main j.
+      leaves-then _ (leaves-functions (P .functions) (P .parameters)) (λ fs k. leaves-then _ leaves-bytes (λ code l. leaves-then _ leaves-positions (λ ps m.
+      leaves-pure _ (record {
+        header = h;
+        source = a;
+        names = b;
+        constants = c;
+        tokens = d;
+        assigns = e;
+        chains = f;
+        switches = rw (length-map (meanConstant A.levels) cs) g;
+        customs = i;
+        main = j;
+        functions = k;
+        code = l .counted;
+        positions = m;
+      }))))))))))))))
+
+  pub accepted-well-formed : (a : A.Artifact) (last : Cursor) → definition.read P mask s ≡ got a last → WellFormed P mask (mean a)
+  accepted-well-formed a last e = leaves-artifact .always start a last (sections-got P mask s a last e)

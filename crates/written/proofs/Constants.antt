@@ -27,16 +27,16 @@ use Rattle.written.proofs.Lists.{all-same, RoomFor, room-for-each}
 abbrev Const : ℕ → Type 0
 Const levels = A.Constant (List ℕ) levels
 
-abbrev Entry : ℕ → Type 0
+abbrev pub Entry : ℕ → Type 0
 Entry levels = List ℕ × Const levels
 
-abbrev behind : (levels : ℕ) → ℕ → Const levels → ℕ
+abbrev pub behind : (levels : ℕ) → ℕ → Const levels → ℕ
 behind levels = A.behind (List ℕ) levels
 
 abbrev behindEntry : (levels : ℕ) → ℕ → Entry levels → ℕ
 behindEntry levels used entry = behind levels used (entry .1)
 
-abbrev meanEntry : (levels : ℕ) → Text × A.Constant Text levels → Entry levels
+abbrev pub meanEntry : (levels : ℕ) → Text × A.Constant Text levels → Entry levels
 meanEntry levels entry = (meanText (entry .0), meanConstant levels (entry .1))
 
 -- a list takes the places that its items take
@@ -62,7 +62,7 @@ behind-more (suc levels) used (A.range from to) = omega arith
 behind-more (suc levels) used (A.rangeInclusive from to) = omega arith
 
 -- a constant and what it means take the same places
-behind-same : (levels used : ℕ) (c : A.Constant Text levels) → A.behind Text levels used c ≡ behind levels used (meanConstant levels c)
+pub behind-same : (levels used : ℕ) (c : A.Constant Text levels) → A.behind Text levels used c ≡ behind levels used (meanConstant levels c)
 behind-same zero used c = refl
 behind-same (suc levels) used (A.array items) = all-same (meanConstant levels) (A.behind Text levels) (behind levels) (behind-same levels) items (used + 1)
 behind-same (suc levels) used (A.map entries) =

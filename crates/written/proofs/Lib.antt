@@ -10,4 +10,5 @@ pub mod Constants
 pub mod Whole
 pub mod Stripped
 pub mod Leaving
+pub mod Trees
 pub mod Accepted
