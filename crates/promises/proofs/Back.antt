@@ -15,7 +15,7 @@ use Rattle.format.specs.Rows as R
 use Rattle.rows.specs.Back as B
 use Rattle.rows.specs.Fits.{Throughout, ThroughoutCases}
 use Rattle.rows.specs.Given.{Back, GivenBack}
-use Rattle.rows.proofs.Stored.{each}
+use Rattle.stored.proofs.Stored.{each}
 use Rattle.chains.proofs.Words.{chain-width, step-width}
 use Rattle.callables.proofs.Items.{input-wide}
 use Rattle.promises.specs.Words.{allInFront}

@@ -12,7 +12,7 @@ use Rattle.format.specs.File as definition
 use Rattle.format.specs.Rows.{tablesOf}
 use Rattle.format.proofs.Torn as torn
 use Rattle.rows.specs.Given.{Bytes}
-use Rattle.rows.proofs.Stored.{read-back}
+use Rattle.stored.proofs.Stored.{read-back}
 use Rattle.reading.specs.declared.answer.Artifact.{Artifact}
 use Rattle.reading.specs.declared.answer.Answer.{Answer}
 use Rattle.reading.specs.Answer.{placesOf, outside, answerOf, tablesAfter, Answered}

@@ -1,5 +1,2 @@
--- Words, the way back from a row, and that the rows which a read stores give its records back.
+-- Words, and what a word taken modulo its width gives back.
 pub mod Numbers
-pub mod Inverse
-pub mod Fitting
-pub mod Stored

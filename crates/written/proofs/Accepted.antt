@@ -28,7 +28,7 @@ use Rattle.leaves.proofs.Leaves.{Leaves, leaves-pure, leaves-refuse, leaves-the
 use Rattle.leaves.proofs.Accepted.{sections-got}
 use Rattle.rows.specs.Fits.{FitsBits, FitsName, FitsRange, FitsInput}
 use Rattle.rows.specs.Given.{Bytes}
-use Rattle.rows.proofs.Fitting.{leaves-number, leaves-signed, leaves-name, leaves-chunk, leaves-root, leaves-tail, leaves-range, leaves-input, leaves-this, leaves-step}
+use Rattle.stored.proofs.Fitting.{leaves-number, leaves-signed, leaves-name, leaves-chunk, leaves-root, leaves-tail, leaves-range, leaves-input, leaves-this, leaves-step}
 use Rattle.written.specs.Meaning.{meanText, meanNames, meanConstant, meanAssign, mean}
 use Rattle.written.specs.WellFormed.{WellString, WellList, WellWith, WellSite, WellFunction, WellHeader, WellNames, WellAssign, flagsOf, WellStep, WellChain, WellCase, WellSwitch, CaseRoom, WellSwitches, WellPositions, WellFormed}
 use Rattle.written.proofs.Lists.{length-map, map-itself}

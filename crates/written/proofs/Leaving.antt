@@ -17,7 +17,7 @@ use Rattle.tables.specs.Table.{Used, behindOne, records, nested}
 use Rattle.format.specs.File as definition
 use Rattle.leaves.proofs.Leaves.{Leaves, leaves-pure, leaves-then, leaves-bind, leaves-check, leaves-room}
 use Rattle.rows.specs.Given.{Bytes}
-use Rattle.rows.proofs.Fitting.{leaves-number}
+use Rattle.stored.proofs.Fitting.{leaves-number}
 use Rattle.written.specs.Meaning.{meanText}
 use Rattle.written.specs.WellFormed.{Counted, WellString, WellList}
 use Rattle.written.proofs.Lists.{length-map, map-itself, oneMore, behind-all, Both, both-before}

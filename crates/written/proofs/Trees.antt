@@ -10,7 +10,7 @@ use Rattle.format.specs.Artifact as A
 use Rattle.format.specs.File as definition
 use Rattle.leaves.proofs.Leaves.{Leaves, leaves-pure, leaves-refuse, leaves-then, leaves-bind, leaves-check, leaves-room, leaves-tag, leaves-unknown}
 use Rattle.rows.specs.Given.{Bytes}
-use Rattle.rows.proofs.Fitting.{leaves-number, leaves-signed}
+use Rattle.stored.proofs.Fitting.{leaves-number, leaves-signed}
 use Rattle.written.specs.Meaning.{meanText, meanConstant}
 use Rattle.written.specs.WellFormed.{Counted, WellString, WellKind, WellConstant, WellConstants}
 use Rattle.written.proofs.Lists.{length-map, all-same}

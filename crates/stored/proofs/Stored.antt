@@ -9,10 +9,10 @@ use Rattle.tables.specs.Table.{With}
 use Rattle.format.specs.Artifact as A
 use Rattle.format.specs.File as definition
 use Rattle.leaves.proofs.Accepted.{sections-got}
 use Rattle.rows.specs.Fits.{Throughout, FitsArtifact}
 use Rattle.rows.specs.Given.{Bytes, GivenBack}
-use Rattle.rows.proofs.Fitting.{leaves-artifact}
-use Rattle.rows.proofs.Inverse.{token-back, assign-back, chain-back, step-back, switch-back, case-back, range-back, site-back, input-back, function-back, parameter-back}
+use Rattle.stored.proofs.Fitting.{leaves-artifact}
+use Rattle.stored.proofs.Inverse.{token-back, assign-back, chain-back, step-back, switch-back, case-back, range-back, site-back, input-back, function-back, parameter-back}
 
 -- what follows for one follows for each
 pub each : {X : Type 0} {P Q : X → Type 0} → ((x : X) → P x → Q x) → (xs : List X) → Each P xs → Each Q xs
