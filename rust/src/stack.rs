@@ -1,7 +1,7 @@
 //! The deepest stack that a read takes: the stack below is painted, and what is no longer painted after the read was used.
 use crate::ours::artifact as ours;
 use beside::artifact::WIDTHS;
-use beside::inputs::artifacts::artifact;
+use beside::inputs::artifacts::{artifact, Style};
 use beside::inputs::artifacts::limits::nested_over;
 use beside::inputs::artifacts::measured::{file, with_positions, Of};
 use beside::original::artifact::{read, OWN_MASK};
@@ -25,7 +25,7 @@ fn measured() {
     }
     deepest("ten thousand artifacts as generated", (0..10_000).map(|seed| artifact(seed, None).0));
     for of in [Of::All, Of::Constants, Of::Chains, Of::Code] {
-        deepest(&format!("{of:?}, a megabyte"), [file(of, 1_000_000)]);
+        deepest(&format!("{of:?}, a megabyte"), [file(of, Style::Any, 1_000_000)]);
     }
     deepest("150,000 positions", [with_positions(150_000)]);
 }

@@ -7,6 +7,7 @@ use super::{best, row, SIZE};
 use crate::ours::artifact as ours;
 use beside::artifact::WIDTHS;
 use beside::inputs::artifacts::measured::{file, with_positions, Of};
+use beside::inputs::artifacts::Style::{self, Any, Plain};
 use beside::original::artifact::{read, OWN_MASK};
 use rhai_grain::{settings, Program};
 use std::hint::black_box;
@@ -45,18 +46,27 @@ fn timed(what: &str, bytes: &[u8], walk: Walk) {
     row(&format!("{what}, {} bytes, a byte", bytes.len()), items, least);
 }
 
-const STRIPPED: [(&str, Of, usize); 6] = [
-    ("stripped", Of::All, 10_000),
-    ("stripped", Of::All, 100_000),
-    ("stripped", Of::All, 500_000),
-    ("all constants", Of::Constants, 100_000),
-    ("all chains", Of::Chains, 100_000),
-    ("all code", Of::Code, 100_000),
+const STRIPPED: [(&str, Of, Style, usize); 15] = [
+    ("plain", Of::All, Plain, 10_000),
+    ("plain", Of::All, Plain, 100_000),
+    ("plain", Of::All, Plain, 500_000),
+    ("any widths", Of::All, Any, 10_000),
+    ("any widths", Of::All, Any, 100_000),
+    ("any widths", Of::All, Any, 500_000),
+    ("names", Of::Names, Plain, 100_000),
+    ("constants", Of::Constants, Plain, 100_000),
+    ("tokens", Of::Tokens, Plain, 100_000),
+    ("assigns", Of::Assigns, Plain, 100_000),
+    ("chains", Of::Chains, Plain, 100_000),
+    ("switches", Of::Switches, Plain, 100_000),
+    ("custom sites", Of::Sites, Plain, 100_000),
+    ("functions", Of::Functions, Plain, 100_000),
+    ("code", Of::Code, Plain, 100_000),
 ];
 
 pub fn all() {
-    for (what, of, size) in STRIPPED {
-        timed(what, &file(of, size), Walk(true));
+    for (what, of, style, size) in STRIPPED {
+        timed(what, &file(of, style, size), Walk(true));
     }
     for (what, walk) in [("positions", Walk(true)), ("positions, no walk", Walk(false))] {
         for instructions in [100, 1_000, 2_000] {
@@ -69,8 +79,8 @@ pub fn all() {
 pub fn memory() {
     println!("| {:<38} | {:>10} | {:>10} | {:>10} | {:>11} |", "bytes of memory", "Rust holds", "at most", "ours, lent", "allocations");
     println!("|{:-<40}|{:->12}|{:->12}|{:->12}|{:->13}|", "", ":", ":", ":", ":");
-    for (what, of, size) in STRIPPED {
-        let bytes = file(of, size);
+    for (what, of, style, size) in STRIPPED {
+        let bytes = file(of, style, size);
         let theirs = used(|| Program::read(&bytes).unwrap());
         let lent: usize = places(&bytes).iter().map(|table| 8 * table.len()).sum();
         let what = format!("{what}, {} bytes", bytes.len());

@@ -1,6 +1,7 @@
 //! The cost of reading against the size of the file, as a picture.
 use super::artifacts::{measure, Walk};
 use beside::inputs::artifacts::measured::{file, Of};
+use beside::inputs::artifacts::Style;
 use std::fmt::Write;
 use std::path::Path;
 
@@ -24,7 +25,7 @@ pub fn draw(to: &Path) {
 }
 
 fn point(size: usize) -> Point {
-    let bytes = file(Of::All, size);
+    let bytes = file(Of::All, Style::Plain, size);
     let (least, items) = measure(&bytes, Walk(true));
     let [theirs, ours] = least.map(|time| time.as_secs_f64() * 1e3 * bytes.len() as f64 / items as f64);
     [bytes.len() as f64 / 1e3, theirs, ours]

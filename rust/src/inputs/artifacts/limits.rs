@@ -5,7 +5,6 @@
 pub const SECTIONS: [&[u8]; 12] = [b"\0", b"\0\0", b"\0", b"\0", b"\0", b"\0", b"\0", b"\0", b"\0\0\0", b"\0", b"\0", b"\0"];
 
 pub const CONSTANTS: usize = 2;
-pub const CHAINS: usize = 5;
 pub const CODE: usize = 10;
 
 /// The least artifact with other bytes for one section.

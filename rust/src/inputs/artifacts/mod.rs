@@ -6,7 +6,7 @@ mod sections;
 mod writer;
 
 pub use limits::{least_with, SECTIONS};
-pub use writer::{Fault, WAYS};
+pub use writer::{Fault, Style, WAYS};
 use writer::Writer;
 
 /// The artifact of a seed, and its fields. With a fault, everything else is the same up to the field that is wrong.

@@ -8,17 +8,42 @@ pub fn artifact(w: &mut Writer) {
     w.text(&source);
     names(w);
     let tops = constants(w);
-    section(w, token);
-    section(w, assign);
+    tokens(w);
+    assigns(w);
     chains(w);
-    section(w, |w| switch(w, tops));
-    section(w, site);
+    switches(w, tops);
+    sites(w);
     w.chunk();
-    section(w, function);
+    functions(w);
     let code = w.random.next().to_le_bytes();
     let size = w.few();
     w.counted(&code[..size]);
     positions(w);
+}
+
+pub fn tokens(w: &mut Writer) {
+    section(w, token);
+}
+
+pub fn assigns(w: &mut Writer) {
+    section(w, assign);
+}
+
+pub fn chains(w: &mut Writer) {
+    section(w, chain);
+}
+
+/// The cases are of so many top constants.
+pub fn switches(w: &mut Writer, tops: usize) {
+    section(w, |w| switch(w, tops));
+}
+
+pub fn sites(w: &mut Writer) {
+    section(w, site);
+}
+
+pub fn functions(w: &mut Writer) {
+    section(w, function);
 }
 
 fn section(w: &mut Writer, record: impl FnMut(&mut Writer)) {
@@ -50,7 +75,7 @@ fn header(w: &mut Writer) {
 }
 
 /// Ends that may stand still, and may stand within a letter.
-fn names(w: &mut Writer) {
+pub fn names(w: &mut Writer) {
     let blob: String = (0..w.records()).map(|_| w.word()).collect();
     let mut ends: Vec<u64> = (0..w.records()).map(|_| w.random.below(blob.len() as u64 + 1)).collect();
     ends.sort_unstable();
@@ -75,10 +100,6 @@ fn assign(w: &mut Writer) {
     w.index();
     token(w);
     w.index();
-}
-
-pub fn chains(w: &mut Writer) {
-    section(w, chain);
 }
 
 fn chain(w: &mut Writer) {

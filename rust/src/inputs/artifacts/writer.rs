@@ -12,22 +12,39 @@ pub struct Fault {
 /// The ways in which a field can be wrong.
 pub const WAYS: usize = 6;
 
+/// What numbers and texts are like.
+#[derive(Debug, Clone, Copy, PartialEq)]
+pub enum Style {
+    /// Numbers of every width, and letters of one to four bytes: all that a file may have.
+    Any,
+    /// Nine in ten numbers of one byte, and words in ASCII, as a compiler writes them.
+    Plain,
+}
+
 pub struct Writer {
     pub random: Random,
     out: Vec<u8>,
     fields: usize,
     fault: Option<Fault>,
     records: Option<usize>,
+    style: Style,
 }
 
 impl Writer {
     pub fn new(seed: u64, fault: Option<Fault>) -> Self {
-        Self { random: Random::new(2 * seed + 1), out: Vec::new(), fields: 0, fault, records: None }
+        Self { random: Random::new(2 * seed + 1), out: Vec::new(), fields: 0, fault, records: None, style: Style::Any }
     }
 
     /// With so many records in each section, and stripped.
-    pub fn large(seed: u64, records: usize) -> Self {
-        Self { records: Some(records), ..Self::new(seed, None) }
+    pub fn large(seed: u64, records: usize, style: Style) -> Self {
+        Self { records: Some(records), style, ..Self::new(seed, None) }
+    }
+
+    fn width(&mut self, most: u64) -> u64 {
+        if self.style == Style::Plain && self.random.below(10) > 0 {
+            return self.random.below(0x80);
+        }
+        self.random.width(most)
     }
 
     /// The records of a section: a few, where no number is given.
@@ -77,23 +94,23 @@ impl Writer {
     }
 
     pub fn index(&mut self) {
-        let value = self.random.width(32);
+        let value = self.width(32);
         self.number(value, 32);
     }
 
     pub fn small(&mut self) {
-        let value = self.random.width(16);
+        let value = self.width(16);
         self.number(value, 16);
     }
 
     pub fn signed(&mut self) {
-        let value = self.random.any_width();
+        let value = self.width(64);
         self.number(value, 64);
     }
 
     /// One in three lines is 0, whatever the column.
     pub fn position(&mut self) {
-        let line = if self.random.below(3) == 0 { 0 } else { self.random.width(16) };
+        let line = if self.random.below(3) == 0 { 0 } else { self.width(16) };
         self.number(line, 16);
         self.small();
     }
@@ -139,8 +156,12 @@ impl Writer {
         self.random.below(4) as usize
     }
 
-    /// A short text, one in four empty.
+    /// A short text, one in four empty; or a word of up to twelve letters.
     pub fn word(&mut self) -> String {
+        if self.style == Style::Plain {
+            let size = 1 + self.random.below(12);
+            return (0..size).map(|_| char::from(b'a' + self.random.below(26) as u8)).collect();
+        }
         let letters = ['a', '+', '=', '\u{e9}', '\u{20ac}', '\u{1f600}'];
         (0..self.few()).map(|_| letters[self.random.below(6) as usize]).collect()
     }
