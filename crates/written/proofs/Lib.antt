@@ -12,3 +12,5 @@ pub mod Stripped
 pub mod Leaving
 pub mod Trees
 pub mod Accepted
+pub mod Spending
+pub mod Shorter

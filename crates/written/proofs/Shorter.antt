@@ -1,0 +1,204 @@
+-- What an accepted read means is written in no more bytes than were read, so it can be written again.
+use Prim.Native.Nat.{ℕ, zero, suc, _+_, _-_, _^_, _≤_, _<_}
+use mathlib.Core.Path.{_≡_, refl, sym, _∙_, ap}
+use mathlib.Core.Bool.{Bool, true, false, not}
+use mathlib.Core.List.{List, [], _∷_, _++_, map, foldl}
+use native.Mathlib.Omega.{arith}
+use lib.ListN.{length, length-append}
+use lib.Dec.{eqb, ltb}
+use borrow.Author.Tests.{eqb-true, eqb-false, ltb-false}
+use Rattle.grammar.specs.declared.Cursor.{Cursor}
+use Rattle.grammar.specs.Outcome.{start, got, refused, Parser, pure, _>>=_, _>>_}
+use Rattle.grammar.specs.Combinators.{if_then_else_, Text, many, putAll}
+use Rattle.grammar.specs.Number.{shortest, shortestIn, zigzag}
+use Rattle.grammar.proofs.RoundTrip.{itself}
+use Rattle.grammar.proofs.Shortest.{shortest-some}
+use Rattle.tables.specs.Table.{With, countItems}
+use Rattle.pos.specs.declared.Checked.{Checked}
+use Rattle.format.specs.declared.records.OptionalPosition.{OptionalPosition}
+use Rattle.format.specs.declared.records.Literal.{Literal}
+use Rattle.format.specs.declared.records.ThisType.{ThisType}
+use Rattle.format.specs.declared.records.Step.{Step}
+use Rattle.format.specs.Artifact as A
+use Rattle.format.specs.File as definition
+use Rattle.written.specs.Meaning.{meanText, meanNames, meanConstant, meanAssign, mean}
+use Rattle.written.specs.Put.{putBytes, putList, putName, putPosition, putChunk, putHeader, putNames, putKind, putConstant, putAssign, putRoot, putStep, putTail, putChain, putCase, putRange, putSwitch, putLiteral, putInput, putSite, putAccess, putThis, putFunction, put}
+use Rattle.written.proofs.Spending.{Spends, spends-pure, spends-refuse, spends-then, spends-free, spends-check, spends-room, spends-left, spends-place, spends-tag, spends-unknown, spends-byte, spends-fixed, spends-number, spends-signed, spends-text, spends-bytes, spends-string, spends-counted, spends-records, spends-list, spends-themselves, spends-items, spends-nested}
+
+-- ── where a value is not written as it stood ──
+
+-- 0 and 1 are a byte
+one-byte : (length (shortest 0) ≡ 1) × (length (shortest 1) ≡ 1)
+unfolding shortest shortestIn
+one-byte = (refl, refl)
+
+-- a column beside line 0 is lost
+placed-short : (line column : ℕ) → length (putPosition (definition.placed line column)) ≤ length (shortest line) + length (shortest column)
+placed-short line column = go (eqb line 0)
+  where
+    go : (b : Bool) → length (putPosition (if b then OptionalPosition.Absent else OptionalPosition.At line column)) ≤ length (shortest line) + length (shortest column)
+    go true = omega (arith, length-append (shortest 0) (shortest 0), one-byte .0, shortest-some line, shortest-some column)
+    go false = omega (arith, length-append (shortest line) (shortest column))
+
+literal-short : (n : ℕ) → length (putLiteral (if eqb n 0xFFFFFFFF then Literal.Absent else Literal.Present n)) ≤ length (shortest n)
+literal-short n = go (eqb n 0xFFFFFFFF) refl
+  where
+    go : (b : Bool) → eqb n 0xFFFFFFFF ≡ b → length (putLiteral (if b then Literal.Absent else Literal.Present n)) ≤ length (shortest n)
+    go true e = let same : n ≡ 0xFFFFFFFF = eqb-true _ _ e in rw same (omega arith)
+    go false e = omega arith
+
+this-short : (n : ℕ) → length (putThis (if eqb n 0 then ThisType.Untyped else ThisType.Typed (n - 1))) ≤ length (shortest n)
+this-short n = go (eqb n 0) refl
+  where
+    go : (b : Bool) → eqb n 0 ≡ b → length (putThis (if b then ThisType.Untyped else ThisType.Typed (n - 1))) ≤ length (shortest n)
+    go true e = omega (arith, one-byte .0, shortest-some n)
+    go false e =
+        let some : n ≡ 0 → ⊥ = eqb-false _ _ e in
+        let back : n - 1 + 1 ≡ n = omega arith in
+        rw back (omega arith)
+
+-- ── the sections ──
+
+module _ {s : List ℕ} where
+  spends-name : Spends s definition.nameIndex (λ name. length (putName name))
+  unfolding definition.nameIndex
+  spends-name = spends-then _ (spends-number 32) (λ n. spends-pure _ (omega arith))
+
+  spends-position : Spends s definition.position (λ at. length (putPosition at))
+  unfolding definition.position
+  spends-position =
+      spends-then _ (spends-number 16) (λ line. spends-then _ (spends-number 16) (λ column. spends-pure _ (omega (arith, placed-short line column))))
+
+  spends-chunk : Spends s definition.chunk (λ c. length (putChunk c))
+  unfolding definition.chunk
+  spends-chunk =
+      spends-then _ (spends-number 32) (λ entry. spends-then _ (spends-number 32) (λ end. spends-then _ (spends-number 16) (λ slots.
+      spends-pure _ (simp (length-append) (omega arith)))))
+
+  spends-header : Spends s definition.header (λ h. length (putHeader h))
+  unfolding definition.header
+  spends-header =
+      spends-then _ (spends-text 4) (λ m. spends-free _ (spends-check _ _) (λ _. spends-then _ (spends-fixed 2) (λ version. spends-free _ (spends-check _ _) (λ _.
+      spends-then _ spends-byte (λ int. spends-then _ spends-byte (λ float. spends-then _ (spends-fixed 4) (λ caps. spends-free _ (spends-check _ _) (λ _.
+      spends-then _ (spends-fixed 8) (λ low. spends-then _ (spends-fixed 8) (λ high. spends-pure _ (omega arith)))))))))))
+
+  spends-names : (places : ℕ) → Spends s (definition.names places) (λ ns. length (putNames (meanNames ns)))
+  unfolding definition.names
+  spends-names places =
+      spends-then _ (spends-number 64) (λ n. spends-free _ (spends-left n) (λ _. spends-then _
+      (spends-themselves (λ xs. length (putList shortest xs) - length (shortest n)) (spends-records itself shortest 1 places (spends-number 32) n 0)) (λ ends.
+      spends-then _ spends-bytes (λ all. spends-free _ (spends-check _ _) (λ _. spends-free _ (spends-check _ _) (λ _. spends-free _ (spends-check _ _) (λ _.
+      spends-pure _ (omega (arith, length-append (putList shortest ends) (putBytes (all .bytes)))))))))))
+
+  spends-assign : Spends s definition.assign (λ a. length (putAssign (meanAssign a)))
+  unfolding definition.assign
+  spends-assign =
+      spends-then _ spends-string (λ opAssign. spends-then _ spends-name (λ opAssignName. spends-then _ spends-string (λ op. spends-then _ spends-name (λ opName.
+      spends-pure _ (simp (length-append) (omega arith))))))
+
+  spends-root : Spends s definition.root (λ r. length (putRoot r))
+  unfolding definition.root
+  spends-root =
+      spends-then _ spends-byte (λ tag.
+      spends-tag _ _ _ (spends-then _ (spends-number 16) (λ slot. spends-then _ spends-name (λ name. spends-pure _ (simp (length-append) (omega arith)))))
+      (spends-tag _ _ _ (spends-pure _ (omega arith))
+      (spends-tag _ _ _ (spends-then _ spends-name (λ name. spends-then _ spends-position (λ at. spends-pure _ (simp (length-append) (omega arith)))))
+      (spends-tag _ _ _ (spends-then _ spends-position (λ at. spends-pure _ (omega arith)))
+      (spends-unknown _ _)))))
+
+  spends-step : (mask : ℕ) → Spends s (definition.step mask) (λ st. length (putStep st))
+  unfolding definition.step
+  spends-step mask =
+      spends-then _ spends-byte (λ tag. spends-then _ spends-byte (λ flags. spends-free _ (spends-check _ _) (λ _.
+      spends-tag _ _ _ (spends-then _ (spends-number 16) (λ operand. spends-then _ spends-position (λ at. spends-then _ spends-position (λ bracket.
+      spends-pure _ (simp (length-append) (omega arith))))))
+      (spends-tag _ _ _ (spends-then _ spends-name (λ name. spends-then _ spends-name (λ getter. spends-then _ spends-name (λ setter. spends-then _ spends-position (λ at.
+      spends-pure _ (simp (length-append) (omega arith)))))))
+      (spends-tag _ _ _ (spends-then _ spends-name (λ name. spends-then _ spends-byte (λ argc. spends-then _ (spends-number 16) (λ operand. spends-then _ spends-position (λ at.
+      spends-pure _ (simp (length-append) (omega arith)))))))
+      (spends-unknown _ _))))))
+
+  spends-tail : Spends s definition.tail (λ t. length (putTail t))
+  unfolding definition.tail
+  spends-tail =
+      spends-then _ spends-byte (λ tag.
+      spends-tag _ _ _ (spends-pure _ (omega arith))
+      (spends-tag _ _ _ (spends-pure _ (omega arith))
+      (spends-tag _ _ _ (spends-then _ (spends-number 32) (λ op. spends-pure _ (omega arith)))
+      (spends-unknown _ _))))
+
+  spends-chain : (stepPlaces mask used : ℕ) → Spends s (definition.chain stepPlaces mask used) (λ c. length (putChain c))
+  unfolding definition.chain
+  spends-chain stepPlaces mask used =
+      spends-then _ spends-root (λ root. spends-then _ (spends-number 16) (λ operands.
+      spends-then _ (spends-items putStep 6 stepPlaces used (spends-step mask)) (λ steps. spends-then _ spends-tail (λ tail.
+      spends-pure _ (omega (arith, length-append (putRoot root) (shortest operands ++ (putList putStep steps ++ putTail tail)), length-append (shortest operands) (putList putStep steps ++ putTail tail), length-append (putList putStep steps) (putTail tail)))))))
+
+  spends-case : (tops : ℕ) → Spends s (definition.case tops) (λ c. length (putCase c))
+  unfolding definition.case
+  spends-case tops =
+      spends-then _ (spends-number 32) (λ blocks. spends-free _ spends-place (λ at. spends-then _ (spends-number 32) (λ k. spends-free _ (spends-check _ _) (λ _.
+      spends-pure _ (simp (length-append) (omega arith))))))
+
+  spends-range : Spends s definition.caseRange (λ r. length (putRange r))
+  unfolding definition.caseRange
+  spends-range =
+      spends-then _ spends-signed (λ from. spends-then _ spends-signed (λ to. spends-then _ spends-byte (λ inclusive. spends-then _ (spends-number 32) (λ target.
+      spends-pure _ (simp (length-append) (omega arith))))))
+
+  spends-switch : (casePlaces rangePlaces tops : ℕ) (used : A.UsedCases) → Spends s (definition.switch casePlaces rangePlaces tops used) (λ w. length (putSwitch w))
+  unfolding definition.switch
+  spends-switch casePlaces rangePlaces tops used =
+      spends-then _ (spends-items putCase 8 casePlaces (used .cases) (spends-case tops)) (λ cases.
+      spends-then _ (spends-items putRange 9 rangePlaces (used .ranges) spends-range) (λ ranges. spends-then _ (spends-number 32) (λ default.
+      spends-pure _ (omega (arith, length-append (putList putCase cases) (putList putRange ranges ++ shortest default), length-append (putList putRange ranges) (shortest default))))))
+
+  spends-input : Spends s definition.input (λ i. length (putInput i))
+  unfolding definition.input
+  spends-input =
+      spends-then _ spends-chunk (λ c. spends-then _ (spends-number 32) (λ literal.
+      spends-pure _ (omega (arith, literal-short literal, length-append (putChunk c) (putLiteral (if eqb literal 0xFFFFFFFF then Literal.Absent else Literal.Present literal))))))
+
+  spends-site : (inputPlaces used : ℕ) → Spends s (definition.site inputPlaces used) (λ u. length (putSite u))
+  unfolding definition.site
+  spends-site inputPlaces used =
+      spends-then _ (spends-number 32) (λ key. spends-then _ (spends-number 32) (λ state. spends-then _ (spends-items putInput 11 inputPlaces used spends-input) (λ inputs.
+      spends-pure _ (omega (arith, length-append (shortest key) (shortest state ++ putList putInput inputs), length-append (shortest state) (putList putInput inputs))))))
+
+  spends-access : Spends s definition.access (λ a. length (putAccess a))
+  unfolding definition.access
+  spends-access =
+      spends-then _ (spends-number 64) (λ n. spends-tag _ _ _ (spends-pure _ (omega (arith, one-byte .0, shortest-some n)))
+      (spends-tag _ _ _ (spends-pure _ (omega (arith, one-byte .1, shortest-some n))) (spends-refuse _)))
+
+  spends-this : Spends s definition.thisType (λ t. length (putThis t))
+  unfolding definition.thisType
+  spends-this = spends-then _ (spends-number 64) (λ n. spends-free _ (spends-check _ _) (λ _. spends-pure _ (omega (arith, this-short n))))
+
+  spends-function : (parameterPlaces used : ℕ) → Spends s (definition.function parameterPlaces used) (λ f. length (putFunction f))
+  unfolding definition.function
+  spends-function parameterPlaces used =
+      spends-then _ spends-name (λ name. spends-then _ spends-access (λ access. spends-then _ spends-this (λ this.
+      spends-then _ (spends-items putName 13 parameterPlaces used spends-name) (λ parameters. spends-then _ spends-chunk (λ chunk.
+      spends-pure _ (omega (arith,
+      length-append (putName name) (putAccess access ++ (putThis this ++ (putList putName parameters ++ putChunk chunk))),
+      length-append (putAccess access) (putThis this ++ (putList putName parameters ++ putChunk chunk)),
+      length-append (putThis this) (putList putName parameters ++ putChunk chunk),
+      length-append (putList putName parameters) (putChunk chunk))))))))
+
+  spends-sound : (answer : Checked) → Spends s (definition.sound answer) (λ _. 0)
+  unfolding definition.sound
+  spends-sound Checked.Sound = spends-pure _ (omega arith)
+  spends-sound (Checked.Refused r) = spends-refuse r
+
+  spends-positions : Spends s definition.positions (λ t. length (putBytes (meanText t)))
+  unfolding definition.positions
+  spends-positions = spends-then _ spends-bytes (λ t. spends-free _ (spends-sound _) (λ _. spends-pure _ (omega arith)))
+
+  -- ── constants ──
+
+  spends-kind : Spends s definition.kind (λ k. length (putKind k))
+  unfolding definition.kind
+  spends-kind =
+      spends-then _ spends-byte (λ tag. spends-tag _ _ _ (spends-pure _ (omega arith))
+      (spends-tag _ _ _ (spends-then _ (spends-number 64) (λ n. spends-pure _ (omega arith))) (spends-unknown _ _)))
