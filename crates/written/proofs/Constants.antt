@@ -22,7 +22,7 @@ use Rattle.written.specs.WellFormed.{Counted, WellString, WellKind, Well
 use Rattle.written.proofs.Parts.{gives-then, gives-end, gives-ended, gives-count, gives-index, gives-signed, gives-bytes, gives-string}
 use Rattle.written.proofs.Lists.{all-same, RoomFor, room-for-each}
 
--- ── places ──
+-- ── places, and the entries of a map ──
 
 abbrev Const : ℕ → Type 0
 Const levels = A.Constant (List ℕ) levels
@@ -38,6 +38,21 @@ behindEntry levels used entry = behind levels used (entry .1)
 
 abbrev pub meanEntry : (levels : ℕ) → Text × A.Constant Text levels → Entry levels
 meanEntry levels entry = (meanText (entry .0), meanConstant levels (entry .1))
+
+abbrev pub behindText : (levels : ℕ) → ℕ → Text × A.Constant Text levels → ℕ
+behindText levels used entry = A.behind Text levels used (entry .1)
+
+abbrev pub WellEntry : (levels : ℕ) → Entry levels → Type 0
+WellEntry levels entry = WellString (entry .0) × WellConstant levels (entry .1)
+
+abbrev pub putEntry : (levels : ℕ) → Entry levels → List ℕ
+putEntry levels entry = putBytes (entry .0) ++ putConstant levels (entry .1)
+
+abbrev pub readEntry : (places levels : ℕ) → ℕ → Parser (Text × A.Constant Text levels)
+readEntry places levels used = do
+  key ← definition.string
+  value ← definition.constant places levels used
+  pure (key, value)
 
 -- a list takes the places that its items take
 module _ {M : Type 0} (next : ℕ → M → ℕ) (more : (used : ℕ) (m : M) → used ≤ next used m) where
@@ -66,7 +81,7 @@ pub behind-same : (levels used : ℕ) (c : A.Constant Text levels) → A.behind 
 behind-same zero used c = refl
 behind-same (suc levels) used (A.array items) = all-same (meanConstant levels) (A.behind Text levels) (behind levels) (behind-same levels) items (used + 1)
 behind-same (suc levels) used (A.map entries) =
-    all-same (meanEntry levels) (λ used entry. A.behind Text levels used (entry .1)) (behindEntry levels) (λ used entry. behind-same levels used (entry .1)) entries (used + 1)
+    all-same (meanEntry levels) (behindText levels) (behindEntry levels) (λ used entry. behind-same levels used (entry .1)) entries (used + 1)
 behind-same (suc levels) used (A.pointer name curried kind) =
     all-same (meanConstant levels) (A.behind Text levels) (behind levels) (behind-same levels) curried (used + 1)
 behind-same (suc levels) used A.unit = refl
@@ -117,31 +132,19 @@ module _ {s : List ℕ} (places levels : ℕ)
       (behind-same levels) (λ c used ok. deeper c used (ok .0) (ok .1)) items used
       (room-for-each (behind levels) (WellConstant levels) Room grows items used r ok)
 
-  abbrev WellEntry : Entry levels → Type 0
-  WellEntry entry = WellString (entry .0) × WellConstant levels (entry .1)
-
-  abbrev putEntry : Entry levels → List ℕ
-  putEntry entry = putBytes (entry .0) ++ putConstant levels (entry .1)
-
-  abbrev readEntry : ℕ → Parser (Text × A.Constant Text levels)
-  readEntry used = do
-    key ← definition.string
-    value ← definition.constant places levels used
-    pure (key, value)
-
-  gives-entry : (entry : Entry levels) (used : ℕ) → WellEntry entry → Room (behindEntry levels used entry) →
-      Gives (meanEntry levels) s (readEntry used) (putEntry entry) entry
+  gives-entry : (entry : Entry levels) (used : ℕ) → WellEntry levels entry → Room (behindEntry levels used entry) →
+      Gives (meanEntry levels) s (readEntry places levels used) (putEntry levels entry) entry
   gives-entry entry used ok r =
       gives-bind meanText (meanEntry levels) _ _ (entry .0) (gives-string (entry .0) (ok .0)) (λ key e.
       gives-last _ (entry .1) (deeper (entry .1) used (ok .1) r) (λ value f. rw (e, f)))
 
-  gives-entries : (entries : List (Entry levels)) (used : ℕ) → Each WellEntry entries → Room (foldl (behindEntry levels) used entries) →
-      Gives (map (meanEntry levels)) s (many (λ used entry. A.behind Text levels used (entry .1)) readEntry (length entries) used) (putAll putEntry entries) entries
+  gives-entries : (entries : List (Entry levels)) (used : ℕ) → Each (WellEntry levels) entries → Room (foldl (behindEntry levels) used entries) →
+      Gives (map (meanEntry levels)) s (many (behindText levels) (readEntry places levels) (length entries) used) (putAll (putEntry levels) entries) entries
   gives-entries entries used ok r =
-      gives-many (meanEntry levels) (λ used entry. A.behind Text levels used (entry .1)) (behindEntry levels) readEntry putEntry
-      (RoomFor (behindEntry levels) WellEntry Room (λ used entry r. grows used (entry .1) r))
+      gives-many (meanEntry levels) (behindText levels) (behindEntry levels) (readEntry places levels) (putEntry levels)
+      (RoomFor (behindEntry levels) (WellEntry levels) Room (λ used entry r. grows used (entry .1) r))
       (λ used entry. behind-same levels used (entry .1)) (λ entry used ok. gives-entry entry used (ok .0) (ok .1)) entries used
-      (room-for-each (behindEntry levels) WellEntry Room (λ used entry r. grows used (entry .1) r) entries used r ok)
+      (room-for-each (behindEntry levels) (WellEntry levels) Room (λ used entry r. grows used (entry .1) r) entries used r ok)
 
   gives-one : (c : Const (suc levels)) (used : ℕ) → WellConstant (suc levels) c → Room (behind (suc levels) used c) →
       Gives (meanConstant (suc levels)) s (definition.constant places (suc levels) used) (putConstant (suc levels) c) c

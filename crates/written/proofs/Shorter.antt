@@ -23,6 +23,7 @@ use Rattle.format.specs.Artifact as A
 use Rattle.format.specs.File as definition
 use Rattle.written.specs.Meaning.{meanText, meanNames, meanConstant, meanAssign, mean}
 use Rattle.written.specs.Put.{putBytes, putList, putName, putPosition, putChunk, putHeader, putNames, putKind, putConstant, putAssign, putRoot, putStep, putTail, putChain, putCase, putRange, putSwitch, putLiteral, putInput, putSite, putAccess, putThis, putFunction, put}
+use Rattle.written.proofs.Constants.{meanEntry, behindText, readEntry, putEntry}
 use Rattle.written.proofs.Spending.{Spends, spends-pure, spends-refuse, spends-then, spends-free, spends-check, spends-room, spends-left, spends-place, spends-tag, spends-unknown, spends-byte, spends-fixed, spends-number, spends-signed, spends-text, spends-bytes, spends-string, spends-counted, spends-records, spends-list, spends-themselves, spends-items, spends-nested}
 
 -- ── where a value is not written as it stood ──
@@ -180,11 +181,13 @@ module _ {s : List ℕ} where
   spends-function parameterPlaces used =
       spends-then _ spends-name (λ name. spends-then _ spends-access (λ access. spends-then _ spends-this (λ this.
       spends-then _ (spends-items putName 13 parameterPlaces used spends-name) (λ parameters. spends-then _ spends-chunk (λ chunk.
-      spends-pure _ (omega (arith,
-      length-append (putName name) (putAccess access ++ (putThis this ++ (putList putName parameters ++ putChunk chunk))),
-      length-append (putAccess access) (putThis this ++ (putList putName parameters ++ putChunk chunk)),
-      length-append (putThis this) (putList putName parameters ++ putChunk chunk),
-      length-append (putList putName parameters) (putChunk chunk))))))))
+      spends-pure _ (omega (
+        arith,
+        length-append (putName name) (putAccess access ++ (putThis this ++ (putList putName parameters ++ putChunk chunk))),
+        length-append (putAccess access) (putThis this ++ (putList putName parameters ++ putChunk chunk)),
+        length-append (putThis this) (putList putName parameters ++ putChunk chunk),
+        length-append (putList putName parameters) (putChunk chunk),
+      )))))))
 
   spends-sound : (answer : Checked) → Spends s (definition.sound answer) (λ _. 0)
   unfolding definition.sound
@@ -202,3 +205,65 @@ module _ {s : List ℕ} where
   spends-kind =
       spends-then _ spends-byte (λ tag. spends-tag _ _ _ (spends-pure _ (omega arith))
       (spends-tag _ _ _ (spends-then _ (spends-number 64) (λ n. spends-pure _ (omega arith))) (spends-unknown _ _)))
+
+module _ {s : List ℕ} (places levels : ℕ)
+    (deeper : (used : ℕ) → Spends s (definition.constant places levels used) (λ c. length (putConstant levels (meanConstant levels c)))) where
+  spends-entry : (used : ℕ) → Spends s (readEntry places levels used) (λ entry. length (putEntry levels (meanEntry levels entry)))
+  spends-entry used = spends-then _ spends-string (λ key. spends-then _ (deeper used) (λ value.
+      spends-pure _ (omega (arith, length-append (putBytes (key .bytes)) (putConstant levels (meanConstant levels value))))))
+
+  spends-inner : (n used : ℕ) → Spends s (many (A.behind Text levels) (definition.constant places levels) n used)
+      (λ cs. length (putList (putConstant levels) (map (meanConstant levels) cs)) - length (shortest n))
+  spends-inner n used = spends-counted (meanConstant levels) (putConstant levels) (A.behind Text levels) deeper n used
+
+  spends-entries : (n used : ℕ) → Spends s (many (behindText levels) (readEntry places levels) n used)
+      (λ entries. length (putList (putEntry levels) (map (meanEntry levels) entries)) - length (shortest n))
+  spends-entries n used = spends-counted (meanEntry levels) (putEntry levels) (behindText levels) spends-entry n used
+
+  spends-one : (used : ℕ) → Spends s (definition.constant places (suc levels) used) (λ c. length (putConstant (suc levels) (meanConstant (suc levels) c)))
+  unfolding definition.constant
+  spends-one used =
+      spends-free _ (spends-room _ _ _) (λ _. spends-then _ spends-byte (λ tag.
+      spends-tag _ _ _ (spends-pure _ (omega arith))
+      (spends-tag _ _ _ (spends-pure _ (omega arith))
+      (spends-tag _ _ _ (spends-pure _ (omega arith))
+      (spends-tag _ _ _ (spends-then _ spends-signed (λ n. spends-pure _ (omega arith)))
+      (spends-tag _ _ _ (spends-then _ (spends-fixed 8) (λ bits. spends-pure _ (omega arith)))
+      (spends-tag _ _ _ (spends-then _ (spends-number 32) (λ code. spends-free _ (spends-check _ _) (λ _. spends-pure _ (omega arith))))
+      (spends-tag _ _ _ (spends-then _ spends-string (λ t. spends-pure _ (omega arith)))
+      (spends-tag _ _ _ (spends-then _ (spends-number 64) (λ n. spends-then _ (spends-inner n (used + 1)) (λ items. spends-pure _ (omega arith))))
+      (spends-tag _ _ _ (spends-then _ (spends-number 64) (λ n. spends-then _ (spends-entries n (used + 1)) (λ entries. spends-pure _ (omega arith))))
+      (spends-tag _ _ _ (spends-then _ spends-bytes (λ t. spends-pure _ (omega arith)))
+      (spends-tag _ _ _ (spends-then _ spends-signed (λ from. spends-then _ spends-signed (λ to. spends-pure _ (simp (length-append) (omega arith)))))
+      (spends-tag _ _ _ (spends-then _ spends-signed (λ from. spends-then _ spends-signed (λ to. spends-pure _ (simp (length-append) (omega arith)))))
+      (spends-tag _ _ _ (spends-then _ spends-string (λ name. spends-then _ (spends-number 64) (λ n. spends-then _ (spends-inner n (used + 1)) (λ curried. spends-then _ spends-kind (λ k.
+      spends-pure _ (omega (
+        arith,
+        length-append (putBytes (name .bytes)) (putList (putConstant levels) (map (meanConstant levels) curried) ++ putKind k),
+        length-append (putList (putConstant levels) (map (meanConstant levels) curried)) (putKind k),
+      )))))))
+      (spends-unknown _ _)))))))))))))))
+
+spends-constant : {s : List ℕ} (places levels used : ℕ) → Spends s (definition.constant places levels used) (λ c. length (putConstant levels (meanConstant levels c)))
+unfolding definition.constant
+spends-constant places zero used = spends-refuse _
+spends-constant places (suc levels) used = spends-one places levels (spends-constant places levels) used
+
+-- ── the whole ──
+
+-- what is owed behind a part
+owed : (size part rest : ℕ) → size ≤ part + rest → size - part ≤ rest
+owed size part rest h = omega arith
+
+spends-artifact : {s : List ℕ} (P : A.Places) (mask : ℕ) → Spends s (definition.artifact P mask) (λ a. length (put (mean a)))
+unfolding definition.artifact definition.constants definition.tokens definition.assigns definition.chains definition.switches definition.customs definition.functions put
+spends-artifact P mask =
+    spends-then _ spends-header (λ h. spends-then _ spends-string (λ source. spends-then _ (spends-names (P .names)) (λ ns.
+    spends-then _ (spends-then _ (spends-number 64) (λ n. spends-inner (P .constants) A.levels (spends-constant (P .constants) A.levels) n 0)) (λ cs.
+    spends-then _ (spends-list meanText putBytes 3 (P .tokens) spends-string 0) (λ ts. spends-then _ (spends-list meanAssign putAssign 4 (P .assigns) spends-assign 0) (λ os.
+    spends-then _ (spends-nested putChain countItems 5 (P .chains) _ (spends-chain (P .steps) mask)) (λ ls.
+    spends-then _ (spends-nested putSwitch A.countCases 7 (P .switches) _ (spends-switch (P .cases) (P .ranges) (length cs))) (λ ws.
+    spends-then _ (spends-nested putSite countItems 10 (P .customs) _ (spends-site (P .inputs))) (λ us. spends-then _ spends-chunk (λ main.
+    spends-then _ (spends-nested putFunction countItems 12 (P .functions) _ (spends-function (P .parameters))) (λ fs.
+    spends-then _ spends-bytes (λ code. spends-then _ spends-positions (λ ps.
+    spends-pure _ (owed _ _ _ (owed _ _ _ (owed _ _ _ (owed _ _ _ (owed _ _ _ (owed _ _ _ (owed _ _ _ (owed _ _ _ (owed _ _ _ (owed _ _ _ (owed _ _ _ (owed _ _ _ (owed _ _ _ (simp (length-append) (omega arith))))))))))))))))))))))))))))

@@ -14,7 +14,7 @@ use Rattle.stored.proofs.Fitting.{leaves-number, leaves-signed}
 use Rattle.written.specs.Meaning.{meanText, meanConstant}
 use Rattle.written.specs.WellFormed.{Counted, WellString, WellKind, WellConstant, WellConstants}
 use Rattle.written.proofs.Lists.{length-map, all-same}
-use Rattle.written.proofs.Constants.{Entry, meanEntry, behind, behind-same}
+use Rattle.written.proofs.Constants.{meanEntry, behind, behindText, WellEntry, readEntry, behind-same}
 use Rattle.written.proofs.Leaving.{leaves-fixed, leaves-bytes, leaves-string, Records, leaves-many, counted-as}
 
 leaves-kind : {s : List ℕ} → Leaves s definition.kind WellKind
@@ -38,23 +38,11 @@ module _ {s : List ℕ} (bytes : Bytes s) (places levels : ℕ) (deeper : (used 
       Leaves s (many (A.behind Text levels) (definition.constant places levels) n used) (Records (meanConstant levels) (A.behind Text levels) (WellConstant levels) Room n used)
   leaves-items n used r = leaves-many (meanConstant levels) (A.behind Text levels) (WellConstant levels) Room deeper n used r
 
-  abbrev WellEntry : Entry levels → Type 0
-  WellEntry entry = WellString (entry .0) × WellConstant levels (entry .1)
-
-  abbrev behindEntry : ℕ → Text × A.Constant Text levels → ℕ
-  behindEntry used entry = A.behind Text levels used (entry .1)
-
-  abbrev readEntry : ℕ → Parser (Text × A.Constant Text levels)
-  readEntry used = do
-    key ← definition.string
-    value ← definition.constant places levels used
-    pure (key, value)
-
-  leaves-entry : (used : ℕ) → Room used → Leaves s (readEntry used) (λ entry. WellEntry (meanEntry levels entry) × Room (behindEntry used entry))
+  leaves-entry : (used : ℕ) → Room used → Leaves s (readEntry places levels used) (λ entry. WellEntry levels (meanEntry levels entry) × Room (behindText levels used entry))
   leaves-entry used r = leaves-then _ leaves-string (λ key a. leaves-then _ (deeper used r) (λ value b. leaves-pure _ ((a, b .0), b .1)))
 
-  leaves-entries : (n used : ℕ) → used ≤ places → Leaves s (many behindEntry readEntry n used) (Records (meanEntry levels) behindEntry WellEntry Room n used)
-  leaves-entries n used r = leaves-many (meanEntry levels) behindEntry WellEntry Room leaves-entry n used r
+  leaves-entries : (n used : ℕ) → used ≤ places → Leaves s (many (behindText levels) (readEntry places levels) n used) (Records (meanEntry levels) (behindText levels) (WellEntry levels) Room n used)
+  leaves-entries n used r = leaves-many (meanEntry levels) (behindText levels) (WellEntry levels) Room leaves-entry n used r
 
   leaves-one : (used : ℕ) → used ≤ places → Leaves s (definition.constant places (suc levels) used) (Kept places (suc levels) used)
   unfolding definition.constant
