@@ -14,3 +14,4 @@ pub mod Trees
 pub mod Accepted
 pub mod Spending
 pub mod Shorter
+pub mod Again

@@ -29,7 +29,7 @@ use Rattle.written.proofs.Spending.{Spends, spends-pure, spends-refuse,
 -- ── where a value is not written as it stood ──
 
 -- 0 and 1 are a byte
-one-byte : (length (shortest 0) ≡ 1) × (length (shortest 1) ≡ 1)
+pub one-byte : (length (shortest 0) ≡ 1) × (length (shortest 1) ≡ 1)
 unfolding shortest shortestIn
 one-byte = (refl, refl)
 
@@ -255,7 +255,7 @@ spends-constant places (suc levels) used = spends-one places levels (spends-cons
 owed : (size part rest : ℕ) → size ≤ part + rest → size - part ≤ rest
 owed size part rest h = omega arith
 
-spends-artifact : {s : List ℕ} (P : A.Places) (mask : ℕ) → Spends s (definition.artifact P mask) (λ a. length (put (mean a)))
+pub spends-artifact : {s : List ℕ} (P : A.Places) (mask : ℕ) → Spends s (definition.artifact P mask) (λ a. length (put (mean a)))
 unfolding definition.artifact definition.constants definition.tokens definition.assigns definition.chains definition.switches definition.customs definition.functions put
 spends-artifact P mask =
     spends-then _ spends-header (λ h. spends-then _ spends-string (λ source. spends-then _ (spends-names (P .names)) (λ ns.
