@@ -1,39 +1,33 @@
 -- What an accepted read means is well-formed, under the same mask and with the same places.
-use Prim.Native.Nat.{ℕ, zero, suc, _+_, _^_, _≤_, _<_}
-use mathlib.Core.Path.{_≡_, refl, sym, _∙_, ap}
+use Prim.Native.Nat.{ℕ, _≤_}
+use mathlib.Core.Path.{_≡_, refl}
 use mathlib.Core.Logic.{_⊎_, inl, inr}
 use mathlib.Core.Bool.{Bool, true, false}
-use mathlib.Core.List.{List, [], _∷_, map, foldl}
+use mathlib.Core.List.{List, [], map, foldl}
 use native.Mathlib.Omega.{arith}
 use lib.ListN.{length}
 use lib.Dec.{eqb}
 use lib.Bits.{bitAnd}
 use borrow.Author.Tests.{ltb-true, eqb-true}
 use Rattle.grammar.specs.declared.Cursor.{Cursor}
-use Rattle.grammar.specs.Outcome.{start, got, Parser, pure, _>>=_, _>>_}
-use Rattle.grammar.specs.Combinators.{if_then_else_, Text, Each}
+use Rattle.grammar.specs.Outcome.{start, got, Parser, _>>=_, _>>_}
+use Rattle.grammar.specs.Combinators.{if_then_else_, Text}
 use Rattle.grammar.proofs.RoundTrip.{itself}
 use Rattle.pos.specs.declared.Checked.{Checked}
 use Rattle.pos.specs.Table.{checked}
 use Rattle.tables.specs.Table.{With, countItems}
-use Rattle.format.specs.declared.records.NameIndex.{NameIndex}
-use Rattle.format.specs.declared.records.Chain.{Chain}
-use Rattle.format.specs.declared.records.Step.{Step}
-use Rattle.format.specs.declared.records.Input.{Input}
-use Rattle.format.specs.declared.records.Site.{Site}
-use Rattle.format.specs.declared.records.Function.{Function}
 use Rattle.format.specs.Artifact as A
 use Rattle.format.specs.File as definition
-use Rattle.leaves.proofs.Leaves.{Leaves, leaves-pure, leaves-refuse, leaves-then, leaves-bind, leaves-check, leaves-room, leaves-tag, leaves-unknown}
+use Rattle.leaves.proofs.Leaves.{Leaves, leaves-pure, leaves-refuse, leaves-then, leaves-bind, leaves-check, leaves-tag, leaves-unknown}
 use Rattle.leaves.proofs.Accepted.{sections-got}
 use Rattle.rows.specs.Fits.{FitsBits, FitsName, FitsRange, FitsInput}
 use Rattle.rows.specs.Given.{Bytes}
-use Rattle.stored.proofs.Fitting.{leaves-number, leaves-signed, leaves-name, leaves-chunk, leaves-root, leaves-tail, leaves-range, leaves-input, leaves-this, leaves-step}
+use Rattle.stored.proofs.Fitting.{leaves-number, leaves-name, leaves-chunk, leaves-root, leaves-tail, leaves-range, leaves-input, leaves-this, leaves-step}
 use Rattle.written.specs.Meaning.{meanText, meanNames, meanConstant, meanAssign, mean}
 use Rattle.written.specs.WellFormed.{WellString, WellList, WellWith, WellSite, WellFunction, WellHeader, WellNames, WellAssign, flagsOf, WellStep, WellChain, WellCase, WellSwitch, CaseRoom, WellSwitches, WellPositions, WellFormed}
 use Rattle.written.proofs.Lists.{length-map, map-itself}
 use Rattle.written.proofs.Trees.{leaves-constants}
-use Rattle.written.proofs.Leaving.{leaves-fixed, Taken, leaves-bytes, leaves-string, Listed, leaves-records, whole-list, leaves-top, leaves-items, leaves-nested}
+use Rattle.written.proofs.Leaving.{leaves-fixed, Taken, leaves-bytes, leaves-string, leaves-records, whole-list, leaves-top, leaves-items, leaves-nested}
 
 -- ── header, names, tokens, assign records ──
 

@@ -1,6 +1,6 @@
 -- What an accepted read means can be written again, whole or stripped, under the same mask and with the same places: it is well-formed and no longer than what was read.
-use Prim.Native.Nat.{ℕ, suc, _+_, _≤_, _<_, zero-le}
-use mathlib.Core.Path.{_≡_, refl, sym, _∙_, ap}
+use Prim.Native.Nat.{ℕ, _+_, _≤_, zero-le}
+use mathlib.Core.Path.{_≡_, refl, sym}
 use mathlib.Core.Bool.{Bool, true, false}
 use mathlib.Core.List.{List, [], _∷_, _++_, map}
 use native.Mathlib.Nat.{le-trans}
@@ -29,7 +29,6 @@ use Rattle.rows.specs.Given.{Bytes}
 use Rattle.written.specs.Meaning.{Meaning, mean}
 use Rattle.written.specs.Put.{putBytes, putList, putName, putPosition, putChunk, putHeader, putNames, putConstant, putAssign, putRoot, putStep, putTail, putChain, putSwitch, putSite, putFunction, put}
 use Rattle.written.specs.Strip.{stripRoot, stripStep, stripChain, strip}
-use Rattle.written.specs.WellFormed.{WellFormed}
 use Rattle.written.proofs.Lists.{length-map}
 use Rattle.written.proofs.Whole.{written-read-back}
 use Rattle.written.proofs.Stripped.{stripped-well-formed}

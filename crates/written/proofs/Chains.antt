@@ -1,11 +1,9 @@
 -- Chains are given back: roots, steps, tails.
-use Prim.Native.Nat.{ℕ, _+_, _≤_}
-use mathlib.Core.Path.{_≡_, refl, sym, ap}
-use mathlib.Core.List.{List, [], _∷_, _++_, foldl}
+use Prim.Native.Nat.{ℕ, _≤_}
+use mathlib.Core.Path.{refl}
+use mathlib.Core.List.{List}
 use native.Mathlib.Omega.{arith}
-use lib.ListN.{length}
 use borrow.Author.Tests.{eq-eqb}
-use Rattle.grammar.specs.Outcome.{pure, _>>=_}
 use Rattle.grammar.specs.Combinators.{_⇒_∣_}
 use Rattle.grammar.specs.RoundTrip.{Gives}
 use Rattle.grammar.proofs.RoundTrip.{itself, gives-pure, gives-check-then, gives-byte-then}

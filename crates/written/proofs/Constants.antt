@@ -1,16 +1,16 @@
 -- Constants are given back, each one level deeper by the same law.
 use Prim.Native.Nat.{ℕ, zero, suc, _+_, _^_, _≤_, _<_}
-use mathlib.Core.Path.{_≡_, refl, sym, _∙_, ap}
+use mathlib.Core.Path.{_≡_, refl, ap}
 use mathlib.Core.Bool.{Bool, true, false, _&&_, _||_, false≢true}
-use mathlib.Core.List.{List, [], _∷_, _++_, append-nil, append-assoc, map, foldl}
+use mathlib.Core.List.{List, [], _∷_, _++_, append-assoc, map, foldl}
 use native.Mathlib.Nat.{le-trans}
 use native.Mathlib.Omega.{arith}
 use lib.ListN.{length}
 use lib.Dec.{leb, ltb}
 use borrow.Author.Tests.{ltb-true}
 use Rattle.grammar.specs.Outcome.{Parser, pure, _>>=_}
-use Rattle.grammar.specs.Combinators.{Text, many, putAll, Each, EachFrom, _⇒_∣_}
-use Rattle.grammar.specs.Number.{number, shortest}
+use Rattle.grammar.specs.Combinators.{Text, many, putAll, Each, _⇒_∣_}
+use Rattle.grammar.specs.Number.{shortest}
 use Rattle.grammar.specs.RoundTrip.{Gives}
 use Rattle.grammar.proofs.RoundTrip.{itself, gives-pure, gives-bind, gives-last, gives-check-then, gives-room-then, gives-byte-then, gives-fixed, gives-many}
 use Rattle.format.specs.Artifact as A
@@ -18,7 +18,7 @@ use Rattle.format.specs.File as definition
 use Rattle.rows.specs.Fits.{FitsBits}
 use Rattle.written.specs.Meaning.{meanText, meanConstant}
 use Rattle.written.specs.Put.{putBytes, putList, putKind, putConstant}
-use Rattle.written.specs.WellFormed.{Counted, WellString, WellKind, WellConstant, WellConstants}
+use Rattle.written.specs.WellFormed.{WellString, WellKind, WellConstant, WellConstants}
 use Rattle.written.proofs.Parts.{gives-then, gives-end, gives-ended, gives-count, gives-index, gives-signed, gives-bytes, gives-string}
 use Rattle.written.proofs.Lists.{all-same, RoomFor, room-for-each}
 

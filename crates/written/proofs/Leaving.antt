@@ -1,21 +1,21 @@
 -- What a read gives of bytes: texts and lists, of any record, with what they mean.
-use Prim.Native.Nat.{ℕ, zero, suc, _+_, _*_, _^_, _≤_, _<_}
-use mathlib.Core.Path.{_≡_, refl, sym, _∙_, ap}
+use Prim.Native.Nat.{ℕ, zero, suc, _+_, _^_, _≤_, _<_}
+use mathlib.Core.Path.{_≡_, refl, sym, ap}
 use mathlib.Core.Bool.{Bool, true, false}
 use mathlib.Core.List.{List, [], _∷_, map, foldl}
 use native.Mathlib.Nat.{pow-succ'}
 use native.Mathlib.Omega.{arith}
-use lib.ListN.{length, getD, take, drop}
+use lib.ListN.{length, take, drop}
 use Rattle.refusal.specs.declared.Refusal.{Refusal}
 use Rattle.grammar.specs.declared.Cursor.{Cursor}
-use Rattle.grammar.specs.Outcome.{advanced, got, refused, Parser, pure, _>>=_, _>>_}
+use Rattle.grammar.specs.Outcome.{advanced, got, refused, Parser, _>>=_, _>>_}
 use Rattle.grammar.specs.Combinators.{if_then_else_, enough, taking, lowFirst, fixed, Text, text, room, many, Each}
 use Rattle.grammar.specs.Number.{number}
 use Rattle.grammar.proofs.Outcome.{got-ne-refused, got-value}
 use Rattle.grammar.proofs.RoundTrip.{itself}
 use Rattle.tables.specs.Table.{Used, behindOne, records, nested}
 use Rattle.format.specs.File as definition
-use Rattle.leaves.proofs.Leaves.{Leaves, leaves-pure, leaves-then, leaves-bind, leaves-check, leaves-room}
+use Rattle.leaves.proofs.Leaves.{Leaves, leaves-pure, leaves-then, leaves-check, leaves-room}
 use Rattle.rows.specs.Given.{Bytes}
 use Rattle.stored.proofs.Fitting.{leaves-number}
 use Rattle.written.specs.Meaning.{meanText}

@@ -1,15 +1,15 @@
 -- Lists whose records are kept in tables are given back where the tables have the places.
-use Prim.Native.Nat.{ℕ, zero, suc, _+_, _^_, _≤_, _<_}
-use mathlib.Core.Path.{_≡_, refl, sym, _∙_, ap, subst}
-use mathlib.Core.List.{List, [], _∷_, _++_, map, foldl}
+use Prim.Native.Nat.{ℕ, suc, _+_, _≤_}
+use mathlib.Core.Path.{_≡_, refl, sym, _∙_, ap}
+use mathlib.Core.List.{List, [], _∷_, map, foldl}
 use native.Mathlib.Omega.{arith}
 use lib.ListN.{length}
-use Rattle.grammar.specs.Outcome.{Parser, pure, _>>=_, _>>_}
-use Rattle.grammar.specs.Combinators.{room, many, putAll, Each, EachFrom}
+use Rattle.grammar.specs.Outcome.{Parser, _>>=_, _>>_}
+use Rattle.grammar.specs.Combinators.{room, putAll, Each, EachFrom}
 use Rattle.grammar.specs.Number.{number}
 use Rattle.grammar.specs.RoundTrip.{Gives}
 use Rattle.grammar.proofs.RoundTrip.{itself, gives-room-then, gives-many}
-use Rattle.tables.specs.Table.{Used, behindOne, records, nested, With, countItems}
+use Rattle.tables.specs.Table.{Used, behindOne, records, nested}
 use Rattle.format.specs.File as definition
 use Rattle.written.specs.Put.{putList}
 use Rattle.written.specs.WellFormed.{Counted, WellList}

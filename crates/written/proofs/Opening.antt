@@ -1,23 +1,20 @@
 -- The header, names, tokens and assign records are given back.
-use Prim.Native.Nat.{ℕ, zero, suc, _+_, _^_, _≤_, _<_}
-use mathlib.Core.Path.{_≡_, refl, sym, _∙_, ap, subst}
-use mathlib.Core.Bool.{true}
-use mathlib.Core.List.{List, [], _∷_, _++_, append-nil, append-assoc, map}
+use Prim.Native.Nat.{ℕ, _≤_}
+use mathlib.Core.Path.{refl, sym, _∙_, ap}
+use mathlib.Core.List.{List, [], _∷_, append-nil, append-assoc, map}
 use native.Mathlib.Omega.{arith}
 use lib.ListN.{length, length-append}
-use lib.Dec.{eqb}
 use borrow.Author.Tests.{eq-eqb}
-use Rattle.grammar.specs.Outcome.{pure, _>>=_}
-use Rattle.grammar.specs.Combinators.{lowBytes, putAll}
+use Rattle.grammar.specs.Combinators.{putAll}
 use Rattle.grammar.specs.Number.{shortest}
 use Rattle.grammar.specs.RoundTrip.{Gives}
-use Rattle.grammar.proofs.RoundTrip.{itself, gives-pure, gives-bind, gives-last, gives-check-then, gives-left-then, gives-byte-then, gives-text-then, gives-fixed}
+use Rattle.grammar.proofs.RoundTrip.{itself, gives-pure, gives-bind, gives-check-then, gives-left-then, gives-byte-then, gives-text-then, gives-fixed}
 use Rattle.grammar.proofs.Shortest.{shortest-some}
 use Rattle.utf8.specs.Check.{isUtf8}
 use Rattle.format.specs.Artifact as A
 use Rattle.format.specs.File as definition
 use Rattle.written.specs.Meaning.{Names, meanText, meanNames, meanAssign}
-use Rattle.written.specs.Put.{putBytes, putList, putName, putHeader, putNames, putAssign}
+use Rattle.written.specs.Put.{putBytes, putList, putHeader, putNames, putAssign}
 use Rattle.written.specs.WellFormed.{WellHeader, WellString, WellList, WellNames, WellAssign}
 use Rattle.written.proofs.Parts.{gives-then, gives-end, gives-count, gives-index, gives-bytes, gives-string, gives-name}
 use Rattle.written.proofs.Lists.{gives-themselves, gives-records, gives-top}

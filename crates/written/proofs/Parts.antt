@@ -1,34 +1,28 @@
 -- What stands in several sections is given back: numbers, bytes, strings, lists in tables, names, positions, chunks.
-use Prim.Native.Nat.{ℕ, zero, suc, _+_, _^_, _≤_, _<_}
-use mathlib.Core.Path.{_≡_, refl, sym, _∙_, ap, subst}
-use mathlib.Core.Bool.{Bool, true, false}
-use mathlib.Core.List.{List, [], _∷_, _++_, append-nil, append-assoc, map, foldl}
+use Prim.Native.Nat.{ℕ, _+_, _^_, _≤_, _<_}
+use mathlib.Core.Path.{_≡_, refl, _∙_, ap}
+use mathlib.Core.List.{List, [], _++_, append-nil}
 use native.Mathlib.Nat.{le-trans}
 use native.Mathlib.Omega.{arith}
-use lib.ListN.{length}
-use lib.Dec.{eqb}
 use lib.Pow.{pow-mono}
 use lib.IntN.{ℤ, pos, negsuc}
 use mir.Syntax.{w64}
 use mir.Val.{SFits}
-use borrow.Author.Tests.{lt-ltb, eq-eqb, ne-eqb}
-use Rattle.refusal.specs.declared.Refusal.{Refusal}
+use borrow.Author.Tests.{ne-eqb}
 use Rattle.grammar.specs.Outcome.{Parser, pure, _>>=_, _>>_}
-use Rattle.grammar.specs.Combinators.{if_then_else_, Text, text, room, many, putAll, Each, EachFrom}
 use Rattle.grammar.specs.Number.{number, signed, zigzag, shortest}
 use Rattle.grammar.specs.RoundTrip.{Gives}
-use Rattle.grammar.proofs.RoundTrip.{itself, gives-pure, gives-bind, gives-last, gives-check-then, gives-room-then, gives-text, gives-many}
+use Rattle.grammar.proofs.RoundTrip.{itself, gives-pure, gives-bind, gives-last, gives-check-then, gives-text}
 use Rattle.grammar.proofs.Number as N
 use Rattle.utf8.specs.Check.{isUtf8}
-use Rattle.tables.specs.Table.{Used, behindOne, records, nested}
 use Rattle.format.specs.declared.records.NameIndex.{NameIndex}
 use Rattle.format.specs.declared.records.OptionalPosition.{OptionalPosition}
 use Rattle.format.specs.declared.records.Chunk.{Chunk}
 use Rattle.format.specs.File as definition
 use Rattle.rows.specs.Fits.{FitsBits, FitsName, FitsPosition, FitsChunk}
 use Rattle.written.specs.Meaning.{meanText}
-use Rattle.written.specs.Put.{putBytes, putList, putName, putPosition, putChunk}
-use Rattle.written.specs.WellFormed.{Counted, WellString, WellList}
+use Rattle.written.specs.Put.{putBytes, putName, putPosition, putChunk}
+use Rattle.written.specs.WellFormed.{Counted, WellString}
 
 -- ── in a do-block: a part that means itself, and the last one ──
 

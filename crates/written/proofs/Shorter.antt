@@ -1,24 +1,21 @@
 -- What an accepted read means is written in no more bytes than were read, so it can be written again.
-use Prim.Native.Nat.{ℕ, zero, suc, _+_, _-_, _^_, _≤_, _<_}
-use mathlib.Core.Path.{_≡_, refl, sym, _∙_, ap}
-use mathlib.Core.Bool.{Bool, true, false, not}
-use mathlib.Core.List.{List, [], _∷_, _++_, map, foldl}
+use Prim.Native.Nat.{ℕ, zero, suc, _+_, _-_, _≤_}
+use mathlib.Core.Path.{_≡_, refl}
+use mathlib.Core.Bool.{Bool, true, false}
+use mathlib.Core.List.{List, _++_, map}
 use native.Mathlib.Omega.{arith}
 use lib.ListN.{length, length-append}
-use lib.Dec.{eqb, ltb}
-use borrow.Author.Tests.{eqb-true, eqb-false, ltb-false}
-use Rattle.grammar.specs.declared.Cursor.{Cursor}
-use Rattle.grammar.specs.Outcome.{start, got, refused, Parser, pure, _>>=_, _>>_}
-use Rattle.grammar.specs.Combinators.{if_then_else_, Text, many, putAll}
-use Rattle.grammar.specs.Number.{shortest, shortestIn, zigzag}
+use lib.Dec.{eqb}
+use borrow.Author.Tests.{eqb-true, eqb-false}
+use Rattle.grammar.specs.Combinators.{if_then_else_, Text, many}
+use Rattle.grammar.specs.Number.{shortest, shortestIn}
 use Rattle.grammar.proofs.RoundTrip.{itself}
 use Rattle.grammar.proofs.Shortest.{shortest-some}
-use Rattle.tables.specs.Table.{With, countItems}
+use Rattle.tables.specs.Table.{countItems}
 use Rattle.pos.specs.declared.Checked.{Checked}
 use Rattle.format.specs.declared.records.OptionalPosition.{OptionalPosition}
 use Rattle.format.specs.declared.records.Literal.{Literal}
 use Rattle.format.specs.declared.records.ThisType.{ThisType}
-use Rattle.format.specs.declared.records.Step.{Step}
 use Rattle.format.specs.Artifact as A
 use Rattle.format.specs.File as definition
 use Rattle.written.specs.Meaning.{meanText, meanNames, meanConstant, meanAssign, mean}

@@ -1,23 +1,23 @@
 -- What was read took at least as many bytes as it is written in.
-use Prim.Native.Nat.{ℕ, zero, suc, _+_, _-_, _^_, _≤_, _<_}
+use Prim.Native.Nat.{ℕ, zero, suc, _+_, _-_, _≤_}
 use mathlib.Core.Path.{_≡_, refl, sym, _∙_, ap}
 use mathlib.Core.Bool.{Bool, true, false}
-use mathlib.Core.List.{List, [], _∷_, _++_, map, foldl}
+use mathlib.Core.List.{List, map}
 use native.Mathlib.Omega.{arith}
 use lib.ListN.{length, take, drop, length-append, length-take, length-drop}
-use lib.Dec.{leb, eqb}
+use lib.Dec.{eqb}
 use borrow.Author.Tests.{leb-true}
 use Rattle.refusal.specs.declared.Refusal.{Refusal}
 use Rattle.refusal.specs.declared.Place.{Place}
 use Rattle.grammar.specs.declared.Cursor.{Cursor}
-use Rattle.grammar.specs.Outcome.{advanced, Outcome, got, refused, Parser, pure, refuse, _>>=_, _>>_}
-use Rattle.grammar.specs.Combinators.{if_then_else_, enough, taking, byte, fixed, Text, textAt, text, place, check, left, room, _⇒_∣_, unknown, many, putAll, Each}
-use Rattle.grammar.specs.Number.{number, signed, zigzag, unzigzag, shortest}
+use Rattle.grammar.specs.Outcome.{advanced, got, refused, Parser, pure, refuse, _>>=_, _>>_}
+use Rattle.grammar.specs.Combinators.{if_then_else_, enough, taking, byte, fixed, Text, textAt, text, place, check, left, room, _⇒_∣_, unknown, many, putAll}
+use Rattle.grammar.specs.Number.{number, signed, zigzag, shortest}
 use Rattle.grammar.proofs.Outcome.{got-ne-refused, got-value, got-next, bind-got}
 use Rattle.grammar.proofs.Number.{zigzag-unzigzag}
 use Rattle.grammar.proofs.RoundTrip.{itself}
 use Rattle.grammar.proofs.Shortest.{shortest-least}
-use Rattle.tables.specs.Table.{Used, behindOne, records, nested}
+use Rattle.tables.specs.Table.{Used, records, nested}
 use Rattle.format.specs.File as definition
 use Rattle.leaves.proofs.Leaves.{Leaves}
 use Rattle.written.specs.Meaning.{meanText}

@@ -1,8 +1,8 @@
 -- What is well-formed is so when stripped.
-use Prim.Native.Nat.{ℕ, _+_, _^_, _≤_, _<_}
+use Prim.Native.Nat.{ℕ, _+_}
 use mathlib.Core.Path.{_≡_, refl, sym, _∙_, ap}
 use mathlib.Core.Logic.{inl}
-use mathlib.Core.List.{List, [], _∷_, map, foldl}
+use mathlib.Core.List.{List, [], _∷_, map}
 use native.Mathlib.Omega.{arith}
 use lib.ListN.{length}
 use Rattle.grammar.specs.Combinators.{Each}
@@ -11,7 +11,7 @@ use Rattle.format.specs.declared.records.Root.{Root}
 use Rattle.format.specs.declared.records.Step.{Step}
 use Rattle.format.specs.declared.records.Chain.{Chain}
 use Rattle.format.specs.Artifact as A
-use Rattle.rows.specs.Fits.{FitsRoot, FitsStep}
+use Rattle.rows.specs.Fits.{FitsRoot}
 use Rattle.written.specs.Meaning.{Meaning}
 use Rattle.written.specs.WellFormed.{WellStep, WellChain, WellWith, WellFormed}
 use Rattle.written.specs.Strip.{stripRoot, stripStep, stripChain, strip}

@@ -1,16 +1,15 @@
 -- Switches are given back: cases, ranges, a default.
-use Prim.Native.Nat.{ℕ, _+_, _≤_}
-use mathlib.Core.Path.{_≡_, refl, sym, ap}
+use Prim.Native.Nat.{ℕ}
+use mathlib.Core.Path.{_≡_, refl}
 use mathlib.Core.Bool.{Bool, true, false, not}
-use mathlib.Core.List.{List, [], _∷_, _++_, foldl}
+use mathlib.Core.List.{List}
 use native.Mathlib.Omega.{arith}
-use lib.ListN.{length}
 use lib.Dec.{eqb}
 use borrow.Author.Tests.{lt-ltb}
-use Rattle.grammar.specs.Outcome.{pure, _>>=_}
+use Rattle.grammar.specs.Outcome.{_>>=_}
 use Rattle.grammar.specs.Combinators.{if_then_else_}
 use Rattle.grammar.specs.RoundTrip.{Gives}
-use Rattle.grammar.proofs.RoundTrip.{itself, gives-pure, gives-bind, gives-check-then, gives-place-then, gives-byte-then}
+use Rattle.grammar.proofs.RoundTrip.{itself, gives-pure, gives-check-then, gives-place-then, gives-byte-then}
 use Rattle.format.specs.declared.records.Case.{Case}
 use Rattle.format.specs.declared.records.Range.{Range}
 use Rattle.format.specs.Artifact as A

@@ -1,19 +1,16 @@
 -- What a read gives of constants is well-formed, each one level deeper by the same law.
-use Prim.Native.Nat.{ℕ, zero, suc, _+_, _^_, _≤_, _<_}
-use mathlib.Core.Path.{_≡_, refl, sym, _∙_, ap}
-use mathlib.Core.List.{List, [], _∷_, map, foldl}
+use Prim.Native.Nat.{ℕ, zero, suc, _+_, _≤_, _<_}
+use mathlib.Core.List.{List, map}
 use native.Mathlib.Omega.{arith}
-use lib.ListN.{length}
-use Rattle.grammar.specs.Outcome.{Parser, pure, _>>=_, _>>_}
-use Rattle.grammar.specs.Combinators.{Text, many, Each}
+use Rattle.grammar.specs.Combinators.{Text, many}
 use Rattle.format.specs.Artifact as A
 use Rattle.format.specs.File as definition
 use Rattle.leaves.proofs.Leaves.{Leaves, leaves-pure, leaves-refuse, leaves-then, leaves-bind, leaves-check, leaves-room, leaves-tag, leaves-unknown}
 use Rattle.rows.specs.Given.{Bytes}
 use Rattle.stored.proofs.Fitting.{leaves-number, leaves-signed}
-use Rattle.written.specs.Meaning.{meanText, meanConstant}
-use Rattle.written.specs.WellFormed.{Counted, WellString, WellKind, WellConstant, WellConstants}
-use Rattle.written.proofs.Lists.{length-map, all-same}
+use Rattle.written.specs.Meaning.{meanConstant}
+use Rattle.written.specs.WellFormed.{WellKind, WellConstant, WellConstants}
+use Rattle.written.proofs.Lists.{all-same}
 use Rattle.written.proofs.Constants.{meanEntry, behind, behindText, WellEntry, readEntry, behind-same}
 use Rattle.written.proofs.Leaving.{leaves-fixed, leaves-bytes, leaves-string, Records, leaves-many, counted-as}
 

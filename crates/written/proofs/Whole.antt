@@ -1,11 +1,11 @@
 -- The whole file: what is written is read back and means the same, equal bytes come only from equal meanings, and no output is a front of a longer other.
-use Prim.Native.Nat.{ℕ, suc, _≤_}
-use mathlib.Core.Path.{_≡_, refl, sym, _∙_, ap}
-use mathlib.Core.List.{List, [], _∷_, _++_, map}
+use Prim.Native.Nat.{ℕ, _≤_}
+use mathlib.Core.Path.{_≡_, sym, _∙_, ap}
+use mathlib.Core.List.{List, [], _++_, map}
 use lib.ListN.{length}
 use borrow.Author.Tests.{le-ltb}
-use Rattle.grammar.specs.Outcome.{start, pure, _>>=_}
-use Rattle.grammar.specs.RoundTrip.{Gives, Read}
+use Rattle.grammar.specs.Outcome.{start}
+use Rattle.grammar.specs.RoundTrip.{Read}
 use Rattle.grammar.proofs.RoundTrip.{gives-bind, gives-last}
 use Rattle.grammar.proofs.Written as W
 use Rattle.format.specs.Artifact as A

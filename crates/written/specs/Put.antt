@@ -1,6 +1,6 @@
 -- THE BYTES OF A MEANING: document 01, "The sections, in file order", section by section, each beside its line of the definition of reading.
 use Prim.Native.Nat.{ℕ, zero, suc, _+_}
-use mathlib.Core.Bool.{Bool, true, false}
+use mathlib.Core.Bool.{true, false}
 use mathlib.Core.List.{List, [], _∷_, _++_}
 use lib.ListN.{length}
 use Rattle.grammar.specs.Combinators.{if_then_else_, lowBytes, putAll}
