@@ -1,4 +1,4 @@
-//! What the original allocates: how much is held at a time, at most, and how often it asks.
+//! What the original allocates: how much is held, and how often it asks.
 use std::alloc::{GlobalAlloc, Layout, System};
 use std::sync::atomic::{AtomicUsize, Ordering::Relaxed};
 
@@ -7,13 +7,10 @@ use std::sync::atomic::{AtomicUsize, Ordering::Relaxed};
 struct Counting;
 
 static HELD: AtomicUsize = AtomicUsize::new(0);
-static MOST: AtomicUsize = AtomicUsize::new(0);
 static ASKED: AtomicUsize = AtomicUsize::new(0);
 
 fn took(size: usize) {
-    let held = HELD.load(Relaxed).wrapping_add(size);
-    HELD.store(held, Relaxed);
-    MOST.store(MOST.load(Relaxed).max(held), Relaxed);
+    HELD.store(HELD.load(Relaxed).wrapping_add(size), Relaxed);
     ASKED.store(ASKED.load(Relaxed).wrapping_add(1), Relaxed);
 }
 
@@ -38,18 +35,16 @@ unsafe impl GlobalAlloc for Counting {
 static ALLOCATOR: Counting = Counting;
 
 pub struct Used {
-    /// The bytes that are held once it is made, and at most on the way.
+    /// The bytes that are held once it is made.
     pub held: usize,
-    pub most: usize,
     pub asked: usize,
 }
 
 /// What it takes to make a thing.
 pub fn used<T>(make: impl FnOnce() -> T) -> Used {
     let (held, asked) = (HELD.load(Relaxed), ASKED.load(Relaxed));
-    MOST.store(held, Relaxed);
     let made = make();
-    let used = Used { held: HELD.load(Relaxed) - held, most: MOST.load(Relaxed) - held, asked: ASKED.load(Relaxed) - asked };
+    let used = Used { held: HELD.load(Relaxed) - held, asked: ASKED.load(Relaxed) - asked };
     drop(made);
     used
 }
