@@ -15,3 +15,4 @@ pub mod Accepted
 pub mod Spending
 pub mod Shorter
 pub mod Again
+pub mod Least
