@@ -22,6 +22,10 @@ static int fault(void) {
     return number ? atoi(number) : 0;
 }
 
+static void many_arguments(struct grain_step *rows, uint64_t count) {
+    for (uint64_t k = 0; k < count; k++) rows[k].argc -= rows[k].argc > 100 && rows[k].argc < 200;
+}
+
 static void accepted(const struct lent *lent, int odd_before, uint64_t *answer) {
     uint64_t steps = answer[GRAIN_ANSWER_ROWS + GRAIN_TABLE_STEPS];
     uint64_t constants = answer[GRAIN_ANSWER_ROWS + GRAIN_TABLE_CONSTANTS];
@@ -41,6 +45,9 @@ static void accepted(const struct lent *lent, int odd_before, uint64_t *answer) 
         break;
     case 9: /* a word behind a table is written */
         lent->table[GRAIN_TABLE_RANGES][lent->words[GRAIN_TABLE_RANGES]] = 1;
+        break;
+    case 11: /* an argument count between 100 and 200 is off: no artifact of vectors/ has one */
+        many_arguments((struct grain_step *)lent->table[GRAIN_TABLE_STEPS], steps);
         break;
     }
 }
