@@ -14,4 +14,4 @@ use Rattle.cases.specs.Table.{Holds, cases}
 
 pub all-hold : Each Holds cases
 unfolding pure refuse _>>=_ taking byte check groups number unzigzag signed shortestIn shortest field reached entries table whole checked walked seek resolved kept order entriesOf bytesOf encoded encodedBytes fixed text left room many _⇒_∣_ unknown records nested UTF8-char first next passes isUtf8 file.string file.bytes file.list file.nameIndex file.position file.chunk file.header file.names file.kind file.constant file.constants file.tokens file.assigns file.chains file.switches file.customs file.functions file.positions file.sound file.artifact file.read combinators.file
-all-hold = (refl, (refl, (refl, (refl, (refl, (refl, (refl, (refl, (refl, (refl, (refl, (refl, (refl, (refl, (refl, (refl, (refl, (refl, tt))))))))))))))))))
+all-hold = (refl, (refl, (refl, (refl, (refl, (refl, (refl, (refl, (refl, (refl, (refl, (refl, (refl, (refl, (refl, (refl, (refl, (refl, (refl, tt)))))))))))))))))))

@@ -1,8 +1,8 @@
--- "Numbers and files to try" of document 01, those marked * in its order, then two about the order of tests; `Hold` of proofs/ says that every one holds.
+-- "Numbers and files to try" of document 01, those marked * in its order, then three about what tempts; `Hold` of proofs/ says that every one holds.
 use Prim.Native.Nat.{ℕ, zero, suc, _-_, _^_}
 use mathlib.Core.Path.{_≡_}
 use mathlib.Core.List.{List, [], _∷_, _++_}
-use lib.ListN.{length, replicate}
+use lib.ListN.{length, replicate, getD}
 use lib.IntN.{ℤ, pos, negsuc}
 use Rattle.refusal.specs.declared.Refusal.{Refusal}
 use Rattle.refusal.specs.declared.PositionsFault.{PositionsFault}
@@ -13,8 +13,9 @@ use Rattle.pos.specs.declared.Checked.{Checked}
 use Rattle.pos.specs.declared.Resolved.{Resolved}
 use Rattle.pos.specs.Table.{checked, resolved}
 use Rattle.pos.specs.Encode.{encodedBytes}
-use Rattle.format.specs.Artifact.{Places}
+use Rattle.format.specs.Artifact.{Places, Artifact}
 use Rattle.format.specs.File.{read}
+use Rattle.format.specs.Rows.{tablesOf}
 
 -- what a case says
 pub data Case : Type 0 where
@@ -32,6 +33,8 @@ pub data Case : Type 0 where
   resolves : List ℕ → ℕ → Resolved → Case
   -- an artifact is read to its end, or refused; tables of 100 places each, no step flags
   loads : List ℕ → Outcome Unit → Case
+  -- and leaves these words in front of a table, which is counted from 0
+  fills : List ℕ → ℕ → List ℕ → Case
 
 abbrev pub ample : Places
 ample =
@@ -56,6 +59,11 @@ abbrev pub forget : {A : Type 0} → Outcome A → Outcome Unit
 forget (got v next) = got tt next
 forget (refused r) = refused r
 
+-- the rows of a table, none where it was refused
+abbrev pub rowsIn : Outcome Artifact → ℕ → List ℕ
+rowsIn (got a next) table = getD (tablesOf a) table []
+rowsIn (refused r) table = []
+
 abbrev pub Holds : Case → Type 0
 Holds (reads bytes outcome) = number 64 bytes start ≡ outcome
 Holds (written n bytes) = shortest n ≡ bytes
@@ -64,6 +72,7 @@ Holds (encodes sites bytes) = encodedBytes sites (replicate (length bytes) 0) �
 Holds (checks table answer) = checked table ≡ answer
 Holds (resolves table address answer) = resolved table address ≡ answer
 Holds (loads bytes outcome) = forget (read ample 0 bytes) ≡ outcome
+Holds (fills bytes table words) = rowsIn (read ample 0 bytes) table ≡ words
 
 abbrev site : ℕ → ℕ → ℕ → Site
 site address line column = record { address = address; line = line; column = column }
@@ -91,6 +100,10 @@ nested n = front ++ ((0x01 ∷ under n) ++ replicate 11 0)
 abbrev narrow : List ℕ
 narrow = 0x52 ∷ 0x47 ∷ 0x52 ∷ 0x4E ∷ 0x0B ∷ 0x00 ∷ 0x04 ∷ 0x08 ∷ []
 
+-- an artifact whose one token is "+": not starred either, but a reader that leaves the sections after the names zero is ruled out
+abbrev token : List ℕ
+token = front ++ (0x00 ∷ 0x01 ∷ 0x01 ∷ 0x2B ∷ replicate 10 0)
+
 abbrev pub cases : List Case
 cases =
     reads (0x80 ∷ 0x00 ∷ []) (got 0 (advanced start 2))
@@ -111,4 +124,5 @@ cases =
     ∷ loads (nested 65) (refused Refusal.ConstantTooDeep)
     ∷ loads (narrow ++ replicate 3 0) (refused Refusal.Truncated)
     ∷ loads (narrow ++ replicate 4 0) (refused (Refusal.Abi 4 8))
+    ∷ fills token 2 (34 ∷ 1 ∷ [])
     ∷ []
