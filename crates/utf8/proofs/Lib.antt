@@ -3,5 +3,6 @@ pub mod Laws
 pub mod Agrees
 pub mod Examples
 pub mod Ascii
+pub mod Short
 pub mod Tables
 pub mod Walks

@@ -1,8 +1,9 @@
 -- What the code's numbers for states mean, and what its two tables have to say of them.
 use mathlib.Core.Path.{_≡_}
+use mathlib.Core.Bool.{Bool, true}
 use mathlib.Core.List.{List, [], _∷_, map}
 use Prim.Native.Nat.{ℕ, _+_, _≤_, _<_, _/_, _%_, _^_}
-use lib.ListN.{length, getD, drop}
+use lib.ListN.{length, getD, take, drop}
 use Rattle.utf8.specs.Syntax.{Range, UTF8-char}
 use Rattle.utf8.specs.Check.{State, owes, refused, next, passes, isUtf8}
 
@@ -52,3 +53,7 @@ pub record Passed (s : List ℕ) (from at : ℕ) : Type 0 where
   pub up : from ≤ at
   pub inside : at ≤ length s
   pub same : isUtf8 (drop from s) ≡ isUtf8 (drop at s)
+
+-- yes is answered of text alone
+pub record Sees (answer : Bool) (s : List ℕ) (start size : ℕ) : Type 0 where
+  pub text : answer ≡ true → isUtf8 (take size (drop start s)) ≡ true

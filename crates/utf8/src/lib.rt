@@ -5,9 +5,9 @@
 // state at the place that is the state's own number: a step is a shift, and no branch depends on a byte.
 ghost use mathlib.Core.Path.{_≡_};
 ghost use Prim.Native.Nat.{_+_, _≤_, min};
-ghost use lib.ListN.{length, drop};
+ghost use lib.ListN.{length, take, drop};
 ghost use Rattle.utf8.specs.Check.{next, isUtf8};
-ghost use Rattle.utf8.specs.Machine.{stateOf, Numbered, Means, Tables, Walked, Passed, Covers};
+ghost use Rattle.utf8.specs.Machine.{stateOf, Numbered, Means, Tables, Walked, Passed, Covers, Sees};
 
 // The states: refused, and for each row of the RFC's table what it owes behind its first byte. The row of
 // ASCII owes nothing, and that is the state between characters.
@@ -110,7 +110,22 @@ fn walk(
     state
 }
 
-// Sixteen bytes or-ed together: below 128 only where each of them is ASCII.
+// Four bytes or-ed together: below 128 only where each of them is ASCII.
+fn four(bytes: &[u8], at: usize) -> u8
+    requires { ⌜ at + 4 ≤ length (now bytes) ⌝ }
+    ensures { λ r. ⌜ Covers (now (bytes .entry)) at 4 r ⌝ }
+{
+    let front = bytes[at] | bytes[at + 1];
+    front | bytes[at + 2] | bytes[at + 3]
+}
+
+fn eight(bytes: &[u8], at: usize) -> u8
+    requires { ⌜ at + 8 ≤ length (now bytes) ⌝ }
+    ensures { λ r. ⌜ Covers (now (bytes .entry)) at 8 r ⌝ }
+{
+    four(bytes, at) | four(bytes, at + 4)
+}
+
 fn sixteen(bytes: &[u8], at: usize) -> u8
     requires { ⌜ at + 16 ≤ length (now bytes) ⌝ }
     ensures { λ r. ⌜ Covers (now (bytes .entry)) at 16 r ⌝ }
@@ -225,4 +240,46 @@ pub fn is_utf8(bytes: &[u8]) -> bool
     } else {
         true
     }
+}
+
+// Short text is seen to be ASCII by a block at its front and one up to its end, which may overlap: no loop depends on how
+// short it is. Otherwise the answer is no.
+fn is_short_ascii(s: &[u8], start: usize, size: usize) -> bool
+    requires { ⌜ start + size ≤ length (now s) ⌝ }
+    ensures { λ r. ⌜ Sees r (now (s .entry)) start size ⌝ }
+{
+    let end = start + size;
+    if size == 0 {
+        return true;
+    }
+    if size < 4 {
+        return s[start] | s[start + size / 2] | s[end - 1] < 128;
+    }
+    if size < 8 {
+        return four(s, start) | four(s, end - 4) < 128;
+    }
+    if size < 16 {
+        return eight(s, start) | eight(s, end - 8) < 128;
+    }
+    if size < 32 {
+        return sixteen(s, start) | sixteen(s, end - 16) < 128;
+    }
+    false
+}
+
+// Whether so many bytes from a place on are UTF-8; what lies past the end is not there.
+pub fn is_utf8_at(s: &[u8], start: usize, size: usize) -> bool
+    ensures { λ r. ⌜ r ≡ isUtf8 (take size (drop start (now (s .entry)))) ⌝ }
+{
+    if s.len() <= start {
+        return true;
+    }
+    if s.len() - start < size {
+        return is_utf8(&s[start..]);
+    }
+    if is_short_ascii(s, start, size) {
+        return true;
+    }
+    let end = start + size;
+    is_utf8(&s[start..end])
 }
