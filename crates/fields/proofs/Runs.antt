@@ -1,18 +1,22 @@
--- Runs of bytes: when they are taken, and a run that is cut at the end.
-use Prim.Native.Nat.{ℕ, _+_, _-_, _≤_, _<_}
-use mathlib.Core.Path.{_≡_, refl, sym, _∙_, ap}
-use mathlib.Core.Bool.{Bool, true, false}
-use mathlib.Core.List.{List, []}
+-- Runs of bytes, when they are taken; and a number of one byte.
+use Prim.Native.Nat.{ℕ, _+_, _*_, _%_, _^_, _≤_, _<_}
+use mathlib.Core.Path.{_≡_}
+use mathlib.Core.List.{List}
+use native.Mathlib.Nat.{add-assoc, lt-of-lt-of-le}
 use native.Mathlib.Omega.{arith}
-use lib.ListN.{length, getD, take, drop, length-drop, drop-of-length-le}
-use lib.Seq.{take-all, take-nil}
-use borrow.Author.Tests.{le-leb, lt-leb}
+use lib.ListN.{length, getD}
+use lib.Bits.{bitOr}
+use lib.Pow.{pow-mono}
+use borrow.Author.Tests.{le-leb, lt-leb, lt-ltb}
 use Rattle.refusal.specs.declared.Refusal.{Refusal}
 use Rattle.grammar.specs.declared.Cursor.{Cursor}
-use Rattle.grammar.specs.Outcome.{advanced, got, refused}
+use Rattle.grammar.specs.Outcome.{advanced, got, refused, pure, _>>=_}
 use Rattle.grammar.specs.Combinators.{taking, byte, textAt, text}
-use Rattle.utf8.specs.Check.{isUtf8}
-use Rattle.utf8.proofs.Laws.{nothing-is-text}
+use Rattle.grammar.specs.Number.{number}
+use Rattle.grammar.proofs.Number.{number-narrow}
+use Rattle.utf8.proofs.Ascii.{or-left, or-right}
+use Rattle.varint.proofs.Groups.{holding-none, holding-last}
+use Rattle.format.specs.File.{placed, position}
 
 module _ (n : ℕ) (s : List ℕ) (c : Cursor) where
   pub too-few : length s < c .at + n → text n s c ≡ refused Refusal.Truncated
@@ -32,13 +36,28 @@ pub byte-there : (s : List ℕ) (c : Cursor) → c .at < length s → byte s c �
 unfolding byte taking
 byte-there s c h = rw (le-leb (c .at + 1) (length s) (omega arith))
 
--- a run that starts past the end is empty, and one that ends past it ends there
-pub none-there : (s : List ℕ) (start size : ℕ) → length s ≤ start → true ≡ isUtf8 (take size (drop start s))
-none-there s start size h = sym (rw (drop-of-length-le s h, take-nil {A = ℕ} size) nothing-is-text)
+-- a number of any width that is one byte
+pub one-byte : (bits : ℕ) → 7 ≤ bits → bits ≤ 64 → (s : List ℕ) (c : Cursor) → c .at < length s → getD s (c .at) 0 < 128 →
+    number bits s c ≡ got (getD s (c .at) 0) (advanced c 1)
+one-byte bits enough fits s c h low =
+    rw (number-narrow bits fits s c, holding-last (holding-none s c h) (omega arith) (omega arith) (rw first low), same, lt-ltb (getD s (c .at) 0) (2 ^ bits) below)
+  where
+    first : c .at + 0 ≡ c .at
+    first = omega arith
 
-pub cut-there : (s : List ℕ) (start size : ℕ) → length s - start ≤ size → take size (drop start s) ≡ take (length s - start) (drop start s)
-cut-there s start size h =
-    take-all size (drop start s) (simp length-drop h) ∙ sym (take-all (length s - start) (drop start s) (simp length-drop (omega arith)))
+    same : 0 + getD s (c .at + 0) 0 % 128 * 2 ^ (7 * 0) ≡ getD s (c .at) 0
+    same = rw first (omega arith)
 
-pub whole-run : (start size : ℕ) → start + size - start ≡ size
-whole-run start size = omega arith
+    below : getD s (c .at) 0 < 2 ^ bits
+    below = lt-of-lt-of-le low (pow-mono {i = 7} {j = bits} enough)
+
+-- a position of two bytes, which are or-ed for one test
+pub two-bytes : (s : List ℕ) (c : Cursor) → c .at + 1 < length s → bitOr (getD s (c .at) 0) (getD s (c .at + 1) 0) < 128 →
+    position s c ≡ got (placed (getD s (c .at) 0) (getD s (c .at + 1) 0)) (advanced c 2)
+unfolding position _>>=_ pure
+two-bytes s c h low =
+    rw (
+      one-byte 16 (omega arith) (omega arith) s c (omega arith) (omega (arith, or-left (getD s (c .at) 0) (getD s (c .at + 1) 0))),
+      one-byte 16 (omega arith) (omega arith) s (advanced c 1) h (omega (arith, or-right (getD s (c .at) 0) (getD s (c .at + 1) 0))),
+      add-assoc (c .at) 1 1,
+    )

@@ -91,17 +91,7 @@ pub fn run(s: &[u8], c: Cursor) -> ReadText
 pub fn is_text(s: &[u8], span: Span) -> bool
     ensures { λ r. ⌜ r ≡ isUtf8 (textAt (now (s .entry)) span .bytes) ⌝ }
 {
-    let start = span.start;
-    let size = span.size;
-    if s.len() <= start {
-        return true;
-    }
-    let left = s.len() - start;
-    if left <= size {
-        return utf8::is_utf8(&s[start..]);
-    }
-    let end = start + size;
-    utf8::is_utf8(&s[start..end])
+    utf8::is_utf8_at(s, span.start, span.size)
 }
 
 // A string: the bytes are taken before they are judged.
@@ -132,8 +122,36 @@ pub fn name_index(s: &[u8], c: Cursor) -> ReadName
     }
 }
 
-// Two smalls; line 0 means none, whatever the column.
+// Two smalls; line 0 means none, whatever the column. Two single bytes, which nearly all are, by one test: this much is
+// inlined, and its answer does not go through memory. Called from one place, the rest would be inlined here.
 pub fn position(s: &[u8], c: Cursor) -> ReadPosition
+    ensures { λ r. ⌜ definition.position (now (s .entry)) c ≡ positionIs r ⌝ }
+{
+    let at = c.at;
+    if s.len() <= at {
+        return two_smalls(s, c);
+    }
+    if s.len() - at < 2 {
+        return two_smalls(s, c);
+    }
+    let line = s[at];
+    let column = s[at + 1];
+    if 128 <= line | column {
+        return two_smalls(s, c);
+    }
+    ReadPosition::Got {
+        position: at_line(wide(line), wide(column)),
+        next: c.advance(2),
+    }
+}
+
+fn wide(b: u8) -> u16
+    ensures { λ r. ⌜ r ≡ b ⌝ }
+{
+    b as u16
+}
+
+fn two_smalls(s: &[u8], c: Cursor) -> ReadPosition
     ensures { λ r. ⌜ definition.position (now (s .entry)) c ≡ positionIs r ⌝ }
 {
     match varint::small(s, c) {

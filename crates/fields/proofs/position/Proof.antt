@@ -1,54 +1,73 @@
--- Each way of the reads is one line of the definition.
-use Rattle.grammar.specs.Outcome.{_>>=_, pure}
-use Rattle.format.specs.File.{position}
+-- Two bytes by one test, or two numbers.
+use native.Mathlib.Omega.{arith}
+use Rattle.fields.proofs.Runs.{two-bytes}
 use borrow.Author.Needs.{needs}
 use Rattle.fields.proofs.position.Statement.{statement}
 use Rattle.fields.proofs.position.Tie as tie
 
-small-requires : tie.Need-small-requires
-small-requires c κs = search needs
+two-smalls-requires : tie.Need-two-smalls-requires
+two-smalls-requires c κs = search needs
 
-enum-known-line : tie.Need-enum-known-line
-enum-known-line c = search needs
+returns : tie.Need-returns
+returns c = search needs
 
-small-requires-2 : tie.Need-small-requires-2
-small-requires-2 c κs = search needs
+sub-if2 : tie.Need-sub-if2
+sub-if2 c = search needs
 
-enum-known-column : tie.Need-enum-known-column
-enum-known-column c = search needs
+two-smalls-requires-2 : tie.Need-two-smalls-requires-2
+two-smalls-requires-2 c κs = search needs
+
+returns-2 : tie.Need-returns-2
+returns-2 c = search needs
+
+shared-slice-read-line : tie.Need-shared-slice-read-line
+shared-slice-read-line c = search needs
+
+add-column : tie.Need-add-column
+add-column c = search needs
+
+shared-slice-read-column : tie.Need-shared-slice-read-column
+shared-slice-read-column c = search needs
+
+two-smalls-requires-3 : tie.Need-two-smalls-requires-3
+two-smalls-requires-3 c κs = search needs
+
+returns-3 : tie.Need-returns-3
+returns-3 c = search needs
+
+wide-requires : tie.Need-wide-requires
+wide-requires c κs = search needs
+
+wide-requires-2 : tie.Need-wide-requires-2
+wide-requires-2 c κs = search needs
 
 at-line-requires : tie.Need-at-line-requires
 at-line-requires c κs = search needs
 
-enum-known-r : tie.Need-enum-known-r
-enum-known-r c = search needs
+advance-requires : tie.Need-advance-requires
+advance-requires c κs = search needs
 
-enum-known-r-2 : tie.Need-enum-known-r-2
-enum-known-r-2 c = search needs
-
-returns : tie.Need-returns
-unfolding position _>>=_ pure
-returns c = rw (c .before .before .before .before .before .before .before .before .small .ensures, c .before .before .before .before .before .before .line .given .1, c .before .before .before .before .small2 .ensures, c .before .before .column .given .1, c .at-line .ensures)
-
-returns-2 : tie.Need-returns-2
-unfolding position _>>=_ pure
-returns-2 c = rw (c .before .before .before .before .before .before .before .small .ensures, c .before .before .before .before .before .line .given .1, c .before .before .before .small2 .ensures, c .before .r .given .1)
-
-returns-3 : tie.Need-returns-3
-unfolding position _>>=_ pure
-returns-3 c = rw (c .before .before .before .small .ensures, c .before .r2 .given .1)
+returns-4 : tie.Need-returns-4
+returns-4 c =
+    rw (c .before .at-line .ensures, c .before .before .before .wide .ensures, c .before .before .wide2 .ensures, c .advance .ensures)
+    (two-bytes (c .before .before .before .before .before .before .before .before .before .before .args .s .now) (c .before .before .before .before .before .before .before .before .before .before .args .c) (omega arith) (c .before .before .before .before .if3 .left))
 
 pub position-spec : {M : Type 1} → statement M
 position-spec =
     tie.close
     (tie.spec
-    small-requires
-    enum-known-line
-    small-requires-2
-    enum-known-column
-    at-line-requires
-    enum-known-r
-    enum-known-r-2
+    two-smalls-requires
     returns
+    sub-if2
+    two-smalls-requires-2
     returns-2
-    returns-3)
+    shared-slice-read-line
+    add-column
+    shared-slice-read-column
+    two-smalls-requires-3
+    returns-3
+    wide-requires
+    wide-requires-2
+    at-line-requires
+    advance-requires
+    returns-4)

@@ -4,7 +4,7 @@ use Prim.Native.Nat.{ℕ}
 use lib.ListN.{take, drop}
 use borrow.Author.Tests.{eq-eqb, ne-eqb}
 use Rattle.pos.specs.Table.{checked}
-use Rattle.fields.proofs.Runs.{whole-run}
+use Rattle.utf8.proofs.Short.{whole-run}
 use borrow.Author.Needs.{needs}
 use Rattle.sections.proofs.positions.sound.Statement.{statement}
 use Rattle.sections.proofs.positions.sound.Tie as tie
