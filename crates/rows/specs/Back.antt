@@ -1,9 +1,9 @@
 -- The way back: the record that the words of a row stand for, in the order of the rows' own definitions. Every row gives a record:
 -- a word is taken modulo the width of what it holds, and a tag that is none of the known ones means the last variant.
-use Prim.Native.Nat.{ℕ, _-_, _%_, _^_}
-use mathlib.Core.Bool.{not}
-use mathlib.Core.List.{List}
-use lib.ListN.{getD}
+use Prim.Native.Nat.{ℕ, zero, suc, _-_, _%_, _^_}
+use mathlib.Core.Bool.{true, false, not}
+use mathlib.Core.List.{List, [], _∷_, map}
+use lib.ListN.{getD, take, drop}
 use lib.Dec.{eqb}
 use lib.IntN.{ℤ}
 use mir.Syntax.{w64}
@@ -28,6 +28,9 @@ use Rattle.format.specs.declared.records.Access.{Access}
 use Rattle.format.specs.declared.records.ThisType.{ThisType}
 use Rattle.format.specs.declared.records.Function.{Function}
 use Rattle.format.specs.File.{placed}
+use Rattle.rows.specs.declared.constants.Kind.{Kind}
+use Rattle.rows.specs.declared.constants.Constant.{Constant}
+use Rattle.rows.specs.declared.constants.Keyed.{Keyed}
 
 -- ── words ──
 
@@ -58,6 +61,43 @@ abbrev pub chunkOf : ℕ → ℕ → ℕ → Chunk
 chunkOf entry end slots = record { entry = index entry; end = index end; slots = small slots }
 
 -- ── rows ──
+
+-- 1 name ends: end
+abbrev pub endOf : List ℕ → ℕ
+endOf row = index (word row 0)
+
+-- 2 constants: tag, a, b, start, length, items, key start, key length
+abbrev pub textOf : List ℕ → Span
+textOf row = record { start = word row 3; size = word row 4 }
+
+abbrev pub kindOf : ℕ → ℕ → Kind
+kindOf tag parameters = if eqb tag 0x81 then Kind.Normal else Kind.Script parameters
+
+abbrev pub pointerOf : List ℕ → Constant
+pointerOf row = Constant.Pointer (textOf row) (word row 5) (kindOf (word row 1) (word row 2))
+
+abbrev pub compoundOf : List ℕ → Constant
+compoundOf row =
+    if eqb (word row 0) 0x07 then Constant.Array (word row 5)
+    else (if eqb (word row 0) 0x08 then Constant.Map (word row 5)
+    else (if eqb (word row 0) 0x09 then Constant.Blob (textOf row)
+    else (if eqb (word row 0) 0x0A then Constant.Range (signed (word row 1)) (signed (word row 2))
+    else (if eqb (word row 0) 0x0B then Constant.RangeInclusive (signed (word row 1)) (signed (word row 2))
+    else pointerOf row))))
+
+abbrev pub constantOf : List ℕ → Constant
+constantOf row =
+    if eqb (word row 0) 0x00 then Constant.Unit
+    else (if eqb (word row 0) 0x01 then Constant.Boolean false
+    else (if eqb (word row 0) 0x02 then Constant.Boolean true
+    else (if eqb (word row 0) 0x03 then Constant.Int (signed (word row 1))
+    else (if eqb (word row 0) 0x04 then Constant.Float (word row 1)
+    else (if eqb (word row 0) 0x05 then Constant.Char (index (word row 1))
+    else (if eqb (word row 0) 0x06 then Constant.Str (textOf row)
+    else compoundOf row))))))
+
+abbrev pub keyedOf : List ℕ → Keyed
+keyedOf row = record { key = record { start = word row 6; size = word row 7 }; constant = constantOf row }
 
 -- 3 tokens: start, length
 abbrev pub spanOf : List ℕ → Span
@@ -153,3 +193,13 @@ functionOf row =
 -- 13 parameters: name
 abbrev pub parameterOf : List ℕ → NameIndex
 parameterOf row = name (word row 0)
+
+-- ── tables ──
+
+-- the first n rows
+abbrev pub cut : ℕ → ℕ → List ℕ → List (List ℕ)
+cut width zero table = []
+cut width (suc n) table = take width table ∷ cut width n (drop width table)
+
+abbrev pub recordsOf : {X : Type 0} → ℕ → (List ℕ → X) → ℕ → List ℕ → List X
+recordsOf width of n table = map of (cut width n table)

@@ -2,8 +2,10 @@
 // a row that no read stored gives a record too (specs/Back.antt says which).
 
 pub mod chains;
+pub mod constants;
 pub mod customs;
 pub mod functions;
+pub mod names;
 pub mod steps;
 pub mod switches;
 pub mod tokens;
