@@ -13,13 +13,14 @@ use Rattle.format.specs.declared.records.Range.{Range}
 use Rattle.format.specs.Artifact as A
 use Rattle.format.specs.Rows as R
 use Rattle.rows.specs.Back as B
+use Rattle.rows.specs.Back.{recordsOf}
 use Rattle.rows.specs.Fits.{Throughout, ThroughoutCases}
 use Rattle.rows.specs.Given.{Back, GivenBack}
 use Rattle.stored.proofs.Stored.{each}
 use Rattle.chains.proofs.Words.{chain-width, step-width}
 use Rattle.callables.proofs.Items.{input-wide}
 use Rattle.promises.specs.Words.{allInFront}
-use Rattle.promises.specs.Back.{recordsOf, TablesGive, Begin}
+use Rattle.promises.specs.Back.{TablesGive, Begin}
 
 -- rows of one width, in front of a table
 rows-give : {X Y : Type 0} (row : X → List ℕ) (of : List ℕ → Y) (view : X → Y) (width : ℕ) → ((x : X) → length (row x) ≡ width) →
@@ -92,6 +93,8 @@ module _ {P : Switch → Type 0} {Q : Case → Type 0} {S : Range → Type 0} wh
 pub tables-give : (a : A.Artifact) (tables : List (List ℕ)) → GivenBack a → Begin tables (R.tablesOf a) → TablesGive a tables
 tables-give a tables back begin =
     record {
+      names = rw (at 0 (omega arith) .1) (rows-give R.endRow B.endOf (λ n. n) 1 (λ _. refl) (a .names .ends) _ (back .names) ∙ map-same (a .names .ends));
+      constants = rw (at 1 (omega arith) .1) (back .constants _);
       tokens = rw (at 2 (omega arith) .1) (rows-give R.tokenRow B.spanOf (λ t. t .span) 2 (λ _. refl) (a .tokens) _ (back .tokens));
       assigns = rw (at 3 (omega arith) .1) (rows-give R.assignRow B.assignOf _ 6 (λ _. refl) (a .assigns) _ (back .assigns));
       chains = rw (at 4 (omega arith) .1) (rows-give (λ w. R.chainRow (w .whole)) B.chainOf (λ w. w .whole) 9 (λ w. chain-width (w .whole)) (a .chains) _ (each whole-of (a .chains) (back .chains)));

@@ -1,8 +1,8 @@
--- What tables give back: the rows in front of each, cut apart and taken back to their records.
-use Prim.Native.Nat.{ℕ, zero, suc}
+-- What tables give back: the rows in front of each, cut apart and taken back to their records, and those of the constants to their tree.
+use Prim.Native.Nat.{ℕ}
 use mathlib.Core.Path.{_≡_}
 use mathlib.Core.List.{List, [], _∷_, _++_, map, flatMap}
-use lib.ListN.{length, getD, take, drop}
+use lib.ListN.{length, getD}
 use Rattle.format.specs.declared.records.NameIndex.{NameIndex}
 use Rattle.format.specs.declared.records.Step.{Step}
 use Rattle.format.specs.declared.records.Case.{Case}
@@ -10,15 +10,8 @@ use Rattle.format.specs.declared.records.Range.{Range}
 use Rattle.format.specs.declared.records.Input.{Input}
 use Rattle.format.specs.Artifact as A
 use Rattle.rows.specs.Back as B
-use Rattle.rows.specs.Given.{placedAssign}
-
--- the first n rows
-abbrev pub cut : ℕ → ℕ → List ℕ → List (List ℕ)
-cut width zero table = []
-cut width (suc n) table = take width table ∷ cut width n (drop width table)
-
-abbrev pub recordsOf : {X : Type 0} → ℕ → (List ℕ → X) → ℕ → List ℕ → List X
-recordsOf width of n table = map of (cut width n table)
+use Rattle.rows.specs.Back.{recordsOf}
+use Rattle.rows.specs.Given.{placedAssign, TableGrows}
 
 -- the items of all records, one list behind the other, as their table has them
 abbrev pub stepsOf : A.Artifact → List Step
@@ -36,8 +29,10 @@ inputsOf a = flatMap (λ w. w .items) (a .customs)
 abbrev pub parametersOf : A.Artifact → List NameIndex
 parametersOf a = flatMap (λ w. w .items) (a .functions)
 
--- tables 3 to 13 of document 01, of which the first is at 2
+-- the thirteen tables of document 01, of which the first is at 0
 pub record TablesGive (a : A.Artifact) (tables : List (List ℕ)) : Type 0 where
+  pub names : recordsOf 1 B.endOf (length (a .names .ends)) (getD tables 0 []) ≡ a .names .ends
+  pub constants : TableGrows (a .constants) (getD tables 1 [])
   pub tokens : recordsOf 2 B.spanOf (length (a .tokens)) (getD tables 2 []) ≡ map (λ t. t .span) (a .tokens)
   pub assigns : recordsOf 6 B.assignOf (length (a .assigns)) (getD tables 3 []) ≡ map placedAssign (a .assigns)
   pub chains : recordsOf 9 B.chainOf (length (a .chains)) (getD tables 4 []) ≡ map (λ w. w .whole) (a .chains)

@@ -1,8 +1,9 @@
--- The numbers of a record that fit its row: those that a read gives. Counts may be any.
-use Prim.Native.Nat.{ℕ, _^_, _<_}
+-- The numbers of a record that fit its row: those that a read gives. Counts may be any, and so may the bits of a float: their words are
+-- taken as they stand.
+use Prim.Native.Nat.{ℕ, zero, suc, _^_, _<_}
 use mir.Syntax.{w64}
 use mir.Val.{SFits}
-use Rattle.grammar.specs.Combinators.{Each}
+use Rattle.grammar.specs.Combinators.{Text, Each}
 use Rattle.tables.specs.Table.{With}
 use Rattle.format.specs.declared.records.NameIndex.{NameIndex}
 use Rattle.format.specs.declared.records.OptionalPosition.{OptionalPosition}
@@ -40,6 +41,22 @@ pub record FitsChunk (c : Chunk) : Type 0 where
   pub slots : FitsBits 16 (c .slots)
 
 -- ── records ──
+
+-- a constant and all its items
+abbrev pub FitsConstant : (T : Type 0) (levels : ℕ) → A.Constant T levels → Type 0
+FitsConstant T zero c = Unit
+FitsConstant T (suc levels) A.unit = Unit
+FitsConstant T (suc levels) (A.boolean b) = Unit
+FitsConstant T (suc levels) (A.int n) = SFits w64 n
+FitsConstant T (suc levels) (A.float bits) = Unit
+FitsConstant T (suc levels) (A.char code) = FitsBits 32 code
+FitsConstant T (suc levels) (A.str t) = Unit
+FitsConstant T (suc levels) (A.array items) = Each (FitsConstant T levels) items
+FitsConstant T (suc levels) (A.map entries) = Each (λ entry. FitsConstant T levels (entry .1)) entries
+FitsConstant T (suc levels) (A.blob t) = Unit
+FitsConstant T (suc levels) (A.range from to) = SFits w64 from × SFits w64 to
+FitsConstant T (suc levels) (A.rangeInclusive from to) = SFits w64 from × SFits w64 to
+FitsConstant T (suc levels) (A.pointer name curried kind) = Each (FitsConstant T levels) curried
 
 pub record FitsAssign {T : Type 0} (a : A.Assign T) : Type 0 where
   pub opAssignName : FitsName (a .opAssignName)
@@ -115,6 +132,8 @@ pub record ThroughoutCases (Whole : Switch → Type 0) (One : Case → Type 0) (
   pub ranges : Each Run (w .ranges)
 
 pub record FitsArtifact (a : A.Artifact) : Type 0 where
+  pub ends : Each (FitsBits 32) (a .names .ends)
+  pub constants : Each (FitsConstant Text A.levels) (a .constants)
   pub assigns : Each FitsAssign (a .assigns)
   pub chains : Each (Throughout FitsChain FitsStep) (a .chains)
   pub switches : Each (ThroughoutCases FitsSwitch FitsCase FitsRange) (a .switches)

@@ -1,5 +1,5 @@
 -- What a read gives of bytes fits.
-use Prim.Native.Nat.{ℕ, _-_, _^_, _≤_, _<_}
+use Prim.Native.Nat.{ℕ, zero, suc, _+_, _-_, _^_, _≤_, _<_}
 use mathlib.Core.Path.{_≡_, refl, sym}
 use mathlib.Core.Bool.{Bool, true, false}
 use mathlib.Core.List.{List}
@@ -13,7 +13,7 @@ use borrow.Author.Tests.{eqb-false, leb-true}
 use Rattle.refusal.specs.declared.Refusal.{Refusal}
 use Rattle.grammar.specs.declared.Cursor.{Cursor}
 use Rattle.grammar.specs.Outcome.{advanced, got, refused, Parser}
-use Rattle.grammar.specs.Combinators.{if_then_else_, enough, taking, byte, Each}
+use Rattle.grammar.specs.Combinators.{if_then_else_, enough, taking, byte, Text, many, Each}
 use Rattle.grammar.specs.Number.{number, signed, zigzag, unzigzag}
 use Rattle.grammar.proofs.Outcome.{got-ne-refused, got-value}
 use Rattle.grammar.proofs.Number.{number-below, zigzag-unzigzag}
@@ -23,8 +23,8 @@ use Rattle.format.specs.declared.records.Literal.{Literal}
 use Rattle.format.specs.declared.records.ThisType.{ThisType}
 use Rattle.format.specs.Artifact as A
 use Rattle.format.specs.File as definition
-use Rattle.leaves.proofs.Leaves.{Leaves, leaves-pure, leaves-then, leaves-bind, leaves-check, leaves-tag, leaves-unknown, leaves-each}
-use Rattle.rows.specs.Fits.{FitsBits, FitsName, FitsPosition, FitsChunk, FitsAssign, FitsRoot, FitsTail, FitsChain, FitsStep, FitsSwitch, FitsCase, FitsRange, FitsSite, FitsLiteral, FitsInput, FitsThis, FitsFunction, Throughout, ThroughoutCases, FitsArtifact}
+use Rattle.leaves.proofs.Leaves.{Leaves, leaves-pure, leaves-refuse, leaves-then, leaves-bind, leaves-check, leaves-tag, leaves-unknown, leaves-each}
+use Rattle.rows.specs.Fits.{FitsBits, FitsName, FitsPosition, FitsChunk, FitsConstant, FitsAssign, FitsRoot, FitsTail, FitsChain, FitsStep, FitsSwitch, FitsCase, FitsRange, FitsSite, FitsLiteral, FitsInput, FitsThis, FitsFunction, Throughout, ThroughoutCases, FitsArtifact}
 use Rattle.rows.specs.Given.{Bytes}
 
 -- ── by a test ──
@@ -89,6 +89,49 @@ module _ {s : List ℕ} where
       ((inner : S) → Leaves s (p inner) Ok) → Leaves s (nested next table places p n used) (Each Ok)
   unfolding nested
   leaves-nested next table places n used one = leaves-each _ (λ used. leaves-bind _ _ (λ _. one (used .inner))) n used
+
+  -- ── names and constants ──
+
+  leaves-ends : (places : ℕ) → Leaves s (definition.names places) (λ ns. Each (FitsBits 32) (ns .ends))
+  unfolding definition.names records
+  leaves-ends places =
+      leaves-bind _ _ (λ n. leaves-bind _ _ (λ _. leaves-then _ (leaves-each _ (λ used. leaves-bind _ _ (λ _. leaves-number 32)) n 0) (λ ends a.
+      leaves-bind _ _ (λ all. leaves-bind _ _ (λ _. leaves-bind _ _ (λ _. leaves-bind _ _ (λ _. leaves-pure _ a)))))))
+
+  -- a constant of one level more, of items and entries one level deeper
+  module _ (places levels : ℕ) (deeper : (used : ℕ) → Leaves s (definition.constant places levels used) (FitsConstant Text levels)) where
+    leaves-items : (n used : ℕ) → Leaves s (many (A.behind Text levels) (definition.constant places levels) n used) (Each (FitsConstant Text levels))
+    leaves-items n used = leaves-each _ deeper n used
+
+    leaves-one : (used : ℕ) → Leaves s (definition.constant places (suc levels) used) (FitsConstant Text (suc levels))
+    unfolding definition.constant
+    leaves-one used =
+        leaves-bind _ _ (λ _. leaves-bind _ _ (λ tag.
+        leaves-tag _ _ _ (leaves-pure _ tt)
+        (leaves-tag _ _ _ (leaves-pure _ tt)
+        (leaves-tag _ _ _ (leaves-pure _ tt)
+        (leaves-tag _ _ _ (leaves-then _ leaves-signed (λ n h. leaves-pure _ h))
+        (leaves-tag _ _ _ (leaves-bind _ _ (λ bits. leaves-pure _ tt))
+        (leaves-tag _ _ _ (leaves-then _ (leaves-number 32) (λ code h. leaves-bind _ _ (λ _. leaves-pure _ h)))
+        (leaves-tag _ _ _ (leaves-bind _ _ (λ t. leaves-pure _ tt))
+        (leaves-tag _ _ _ (leaves-bind _ _ (λ n. leaves-then _ (leaves-items n (used + 1)) (λ items h. leaves-pure _ h)))
+        (leaves-tag _ _ _ (leaves-bind _ _ (λ n. leaves-then _ (leaves-each _ (λ used. leaves-bind _ _ (λ key. leaves-then _ (deeper used) (λ value h.
+        leaves-pure _ h))) n (used + 1)) (λ entries h. leaves-pure _ h)))
+        (leaves-tag _ _ _ (leaves-bind _ _ (λ t. leaves-pure _ tt))
+        (leaves-tag _ _ _ (leaves-then _ leaves-signed (λ from a. leaves-then _ leaves-signed (λ to b. leaves-pure _ (a, b))))
+        (leaves-tag _ _ _ (leaves-then _ leaves-signed (λ from a. leaves-then _ leaves-signed (λ to b. leaves-pure _ (a, b))))
+        (leaves-tag _ _ _ (leaves-bind _ _ (λ name. leaves-bind _ _ (λ n. leaves-then _ (leaves-items n (used + 1)) (λ curried h.
+        leaves-bind _ _ (λ k. leaves-pure _ h)))))
+        (leaves-unknown _ _)))))))))))))))
+
+  leaves-constant : (places levels used : ℕ) → Leaves s (definition.constant places levels used) (FitsConstant Text levels)
+  unfolding definition.constant
+  leaves-constant places zero used = leaves-refuse _
+  leaves-constant places (suc levels) used = leaves-one places levels (leaves-constant places levels) used
+
+  leaves-constants : (places : ℕ) → Leaves s (definition.constants places) (Each (FitsConstant Text A.levels))
+  unfolding definition.constants
+  leaves-constants places = leaves-bind _ _ (λ n. leaves-items places A.levels (leaves-constant places A.levels) n 0)
 
   -- ── records ──
 
@@ -196,7 +239,10 @@ module _ {s : List ℕ} (bytes : Bytes s) where
   pub leaves-artifact : (P : A.Places) (mask : ℕ) → Leaves s (definition.artifact P mask) FitsArtifact
   unfolding definition.artifact definition.assigns
   leaves-artifact P mask =
-      leaves-bind _ _ (λ h. leaves-bind _ _ (λ source. leaves-bind _ _ (λ ns. leaves-bind _ _ (λ cs. leaves-bind _ _ (λ ts.
+      leaves-bind _ _ (λ h. leaves-bind _ _ (λ source.
+      leaves-then _ (leaves-ends (P .names)) (λ ns f.
+      leaves-then _ (leaves-constants (P .constants)) (λ cs g.
+      leaves-bind _ _ (λ ts.
       leaves-then _ (leaves-list _ _ _ leaves-assign) (λ os a.
       leaves-then _ (leaves-chains (P .chains) (P .steps) mask) (λ ls b.
       leaves-then _ (leaves-switches (P .switches) (P .cases) (P .ranges) (length cs)) (λ ws c.
@@ -204,4 +250,4 @@ module _ {s : List ℕ} (bytes : Bytes s) where
       leaves-bind _ _ (λ main.
       leaves-then _ (leaves-functions (P .functions) (P .parameters)) (λ fs e.
       leaves-bind _ _ (λ code. leaves-bind _ _ (λ ps.
-      leaves-pure _ (record { assigns = a; chains = b; switches = c; customs = d; functions = e }))))))))))))))
+      leaves-pure _ (record { ends = f; constants = g; assigns = a; chains = b; switches = c; customs = d; functions = e }))))))))))))))

@@ -23,11 +23,14 @@ use Rattle.format.specs.declared.records.Access.{Access}
 use Rattle.format.specs.declared.records.ThisType.{ThisType}
 use Rattle.format.specs.declared.records.Function.{Function}
 use Rattle.format.specs.Artifact as A
-use Rattle.format.specs.Rows.{yes, tailWords, literalWords, thisWord, accessWord, tokenRow, assignRow, chainRow, stepRow, switchRow, caseRow, rangeRow, siteRow, inputRow, functionRow, parameterRow}
-use Rattle.rows.specs.Back.{word, tailOf, literalOf, thisOf, accessOf, spanOf, assignOf, chainOf, stepOf, switchOf, caseOf, rangeOf, siteOf, inputOf, functionOf, parameterOf}
+use Rattle.format.specs.Rows.{yes, tailWords, literalWords, thisWord, accessWord, endRow, tokenRow, assignRow, chainRow, stepRow, switchRow, caseRow, rangeRow, siteRow, inputRow, functionRow, parameterRow}
+use Rattle.rows.specs.Back.{word, tailOf, literalOf, thisOf, accessOf, endOf, spanOf, assignOf, chainOf, stepOf, switchOf, caseOf, rangeOf, siteOf, inputOf, functionOf, parameterOf}
 use Rattle.rows.specs.Fits.{FitsBits, FitsName, FitsAssign, FitsRoot, FitsTail, FitsChain, FitsStep, FitsSwitch, FitsCase, FitsRange, FitsSite, FitsLiteral, FitsInput, FitsThis, FitsFunction}
 use Rattle.rows.specs.Given.{placedAssign}
 use Rattle.rows.proofs.Numbers.{bits-back, position-back, chunk-back}
+
+pub end-back : (end : ℕ) → FitsBits 32 end → endOf (endRow end) ≡ end
+end-back end fits = bits-back fits
 
 pub token-back : (t : Text) → spanOf (tokenRow t) ≡ t .span
 token-back t = refl

@@ -1,4 +1,5 @@
--- The way back is the inverse on records that fit, and what a read gives fits.
+-- The way back is the inverse on records and constants that fit, and what a read gives fits.
 pub mod Inverse
+pub mod Growing
 pub mod Fitting
 pub mod Stored

@@ -1,4 +1,4 @@
--- The rows that a read stores give its records back.
+-- The rows that a read stores give its records back, and those of its constants their tree.
 use Prim.Native.Nat.{ℕ}
 use mathlib.Core.Path.{_≡_}
 use mathlib.Core.List.{List, [], _∷_}
@@ -12,7 +12,8 @@ use Rattle.leaves.proofs.Accepted.{sections-got}
 use Rattle.rows.specs.Fits.{Throughout, FitsArtifact}
 use Rattle.rows.specs.Given.{Bytes, GivenBack}
 use Rattle.stored.proofs.Fitting.{leaves-artifact}
-use Rattle.stored.proofs.Inverse.{token-back, assign-back, chain-back, step-back, switch-back, case-back, range-back, site-back, input-back, function-back, parameter-back}
+use Rattle.stored.proofs.Growing.{constants-back}
+use Rattle.stored.proofs.Inverse.{end-back, token-back, assign-back, chain-back, step-back, switch-back, case-back, range-back, site-back, input-back, function-back, parameter-back}
 
 -- what follows for one follows for each
 pub each : {X : Type 0} {P Q : X → Type 0} → ((x : X) → P x → Q x) → (xs : List X) → Each P xs → Each Q xs
@@ -30,6 +31,8 @@ throughout whole item w ok = record { whole = whole (w .whole) (ok .whole); item
 pub fitting-back : (a : A.Artifact) → FitsArtifact a → GivenBack a
 fitting-back a fits =
     record {
+      names = each end-back (a .names .ends) (fits .ends);
+      constants = constants-back (a .constants) (fits .constants);
       tokens = all token-back (a .tokens);
       assigns = each assign-back (a .assigns) (fits .assigns);
       chains = each (throughout chain-back step-back) (a .chains) (fits .chains);
