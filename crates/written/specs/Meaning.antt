@@ -1,5 +1,5 @@
 -- What a file means: all that it holds, with its texts' bytes in place of the texts.
-use Prim.Native.Nat.{ℕ, zero, suc}
+use Prim.Native.Nat.{ℕ}
 use mathlib.Core.List.{List, map}
 use Rattle.grammar.specs.Combinators.{Text}
 use Rattle.tables.specs.Table.{With}
@@ -11,6 +11,7 @@ use Rattle.format.specs.declared.records.Input.{Input}
 use Rattle.format.specs.declared.records.Site.{Site}
 use Rattle.format.specs.declared.records.Function.{Function}
 use Rattle.format.specs.Artifact as A
+use Rattle.rows.specs.Tree.{overTexts}
 
 pub record Names : Type 0 where
   pub ends : List ℕ
@@ -40,19 +41,7 @@ abbrev pub meanNames : A.Names → Names
 meanNames ns = record { ends = ns .ends; blob = meanText (ns .blob) }
 
 abbrev pub meanConstant : (levels : ℕ) → A.Constant Text levels → A.Constant (List ℕ) levels
-meanConstant zero c = c
-meanConstant (suc levels) A.unit = A.unit
-meanConstant (suc levels) (A.boolean b) = A.boolean b
-meanConstant (suc levels) (A.int n) = A.int n
-meanConstant (suc levels) (A.float bits) = A.float bits
-meanConstant (suc levels) (A.char code) = A.char code
-meanConstant (suc levels) (A.str t) = A.str (meanText t)
-meanConstant (suc levels) (A.array items) = A.array (map (meanConstant levels) items)
-meanConstant (suc levels) (A.map entries) = A.map (map (λ entry. (meanText (entry .0), meanConstant levels (entry .1))) entries)
-meanConstant (suc levels) (A.blob t) = A.blob (meanText t)
-meanConstant (suc levels) (A.range from to) = A.range from to
-meanConstant (suc levels) (A.rangeInclusive from to) = A.rangeInclusive from to
-meanConstant (suc levels) (A.pointer name curried kind) = A.pointer (meanText name) (map (meanConstant levels) curried) kind
+meanConstant levels c = overTexts meanText levels c
 
 abbrev pub meanAssign : A.Assign Text → A.Assign (List ℕ)
 meanAssign a =
