@@ -1,16 +1,11 @@
 -- What each answer of a read says, as an outcome.
 use Prim.Native.Nat.{ℕ}
 use Rattle.grammar.specs.Outcome.{Outcome, got, refused}
-use Rattle.constants.specs.declared.words.ReadByte.{ReadByte}
 use Rattle.constants.specs.declared.words.ReadWord.{ReadWord}
 use Rattle.constants.specs.declared.heads.Head.{Head}
 use Rattle.constants.specs.declared.heads.ReadHead.{ReadHead}
 use Rattle.constants.specs.declared.tails.ReadTail.{ReadTail}
 use Rattle.constants.specs.Parts.{Ab}
-
-abbrev pub byteIs : ReadByte → Outcome ℕ
-byteIs (ReadByte.Got value next) = got value next
-byteIs (ReadByte.Refused r) = refused r
 
 abbrev pub wordIs : ReadWord → Outcome ℕ
 wordIs (ReadWord.Got value next) = got value next

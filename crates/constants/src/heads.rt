@@ -3,8 +3,8 @@ ghost use mathlib.Core.Path.{_≡_};
 ghost use Rattle.format.specs.File as definition;
 ghost use Rattle.constants.specs.Answers.{headRead};
 ghost use Rattle.constants.specs.Parts as parts;
-use crate::words::ReadByte;
 use crate::words::ReadWord;
+use fields::ReadByte;
 use fields::ReadText;
 use format::tags::ConstantTag;
 use grammar::Cursor;
@@ -35,7 +35,7 @@ pub enum ReadHead {
 pub fn head_of(s: &[u8], c: Cursor) -> ReadHead
     ensures { λ r. ⌜ parts.headed parts.front (now (s .entry)) c ≡ headRead r ⌝ }
 {
-    match crate::words::byte(s, c) {
+    match fields::byte(s, c) {
         ReadByte::Got { value, next } => by_tag(s, next, value),
         ReadByte::Refused(r) => ReadHead::Refused(r),
     }
@@ -107,7 +107,7 @@ fn int(s: &[u8], c: Cursor) -> ReadHead
     match varint::ivarint(s, c) {
         ReadSigned::Got { value, next } => single(
             ConstantTag::INT,
-            crate::words::bits_of(value),
+            fields::bits_of(value),
             0,
             next,
         ),
@@ -220,8 +220,8 @@ fn range(s: &[u8], c: Cursor, inclusive: bool) -> ReadHead
         } => match varint::ivarint(s, behind) {
             ReadSigned::Got { value: to, next } => single(
                 range_tag(inclusive),
-                crate::words::bits_of(from),
-                crate::words::bits_of(to),
+                fields::bits_of(from),
+                fields::bits_of(to),
                 next,
             ),
             ReadSigned::Refused(r) => ReadHead::Refused(r),

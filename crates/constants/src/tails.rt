@@ -6,7 +6,7 @@ ghost use Rattle.constants.specs.Answers.{tailRead};
 ghost use Rattle.constants.specs.Kept.{Kept};
 ghost use Rattle.constants.specs.Parts as parts;
 use crate::heads::Head;
-use crate::words::ReadByte;
+use fields::ReadByte;
 use format::tags::PointerTag;
 use grammar::Cursor;
 use grammar::Span;
@@ -25,7 +25,7 @@ pub enum ReadTail {
 fn kind(s: &[u8], c: Cursor) -> ReadTail
     ensures { λ r. ⌜ parts.kindTail (now (s .entry)) c ≡ tailRead r ⌝ }
 {
-    match crate::words::byte(s, c) {
+    match fields::byte(s, c) {
         ReadByte::Got { value, next } => kind_by_tag(s, next, value),
         ReadByte::Refused(r) => ReadTail::Refused(r),
     }

@@ -1,34 +1,15 @@
-// Single bytes, eight bytes as one word, and a signed number as its 64 bits.
+// Eight bytes as one word.
 ghost use mathlib.Core.Path.{_≡_};
 ghost use Prim.Native.Nat.{_+_, _<_, _≤_};
 ghost use lib.ListN.{length};
 ghost use Rattle.grammar.specs.Combinators as definition;
-ghost use Rattle.format.specs.Rows.{bits};
-ghost use Rattle.constants.specs.Answers.{byteIs, wordIs};
+ghost use Rattle.constants.specs.Answers.{wordIs};
 use grammar::Cursor;
 use refusal::Refusal;
-
-pub enum ReadByte {
-    Got { value: u8, next: Cursor },
-    Refused(Refusal),
-}
 
 pub enum ReadWord {
     Got { value: u64, next: Cursor },
     Refused(Refusal),
-}
-
-pub fn byte(s: &[u8], c: Cursor) -> ReadByte
-    ensures { λ r. ⌜ definition.byte (now (s .entry)) c ≡ byteIs r ⌝ }
-{
-    let at = c.at;
-    if s.len() <= at {
-        return ReadByte::Refused(Refusal::Truncated);
-    }
-    ReadByte::Got {
-        value: s[at],
-        next: c.advance(1),
-    }
 }
 
 // Eight bytes, low first.
@@ -74,11 +55,4 @@ fn eight(s: &[u8], at: usize) -> u64
     let v2 = wide(s[at2]) + 256 * v3;
     let v1 = wide(s[at1]) + 256 * v2;
     wide(s[at]) + 256 * v1
-}
-
-// The 64 bits of a signed number: those of its complement, turned round, where it is negative.
-pub fn bits_of(z: i64) -> u64
-    ensures { λ r. ⌜ r ≡ bits z ⌝ }
-{
-    if 0 <= z { z as u64 } else { !(!z as u64) }
 }

@@ -5,6 +5,7 @@ ghost use Rattle.grammar.specs.Combinators.{text, textAt};
 ghost use Rattle.grammar.specs.Combinators as combinators;
 ghost use Rattle.utf8.specs.Check.{isUtf8};
 ghost use Rattle.format.specs.File as definition;
+ghost use Rattle.format.specs.Rows.{bits};
 ghost use Rattle.fields.specs.Answers.{byteIs, textIs, nameIs, positionIs, chunkIs, chunkSlots};
 use format::records::Chunk;
 use format::records::NameIndex;
@@ -211,4 +212,11 @@ fn chunk_slots(s: &[u8], c: Cursor, entry: u32, end: u32) -> ReadChunk
         },
         ReadSmall::Refused(r) => ReadChunk::Refused(r),
     }
+}
+
+// The 64 bits of a signed number, as a row keeps them: of a negative one the complement of its complement.
+pub fn bits_of(z: i64) -> u64
+    ensures { λ r. ⌜ r ≡ bits z ⌝ }
+{
+    if 0 <= z { z as u64 } else { !(!z as u64) }
 }

@@ -68,13 +68,6 @@ fn range_behind(s: &[u8], c: Cursor, from: i64, to: i64) -> ReadRange
     }
 }
 
-// The 64 bits of a signed number: of a negative one the complement of its complement.
-pub fn word(z: i64) -> u64
-    ensures { λ r. ⌜ r ≡ bits z ⌝ }
-{
-    if 0 <= z { z as u64 } else { !(!z as u64) }
-}
-
 // Yes is 1 and no is 0.
 fn yes_word(b: bool) -> u64
     ensures { λ r. ⌜ r ≡ yes b ⌝ }
@@ -86,8 +79,8 @@ pub fn range_row(range: Range) -> [u64; 4]
     ensures { λ r. ⌜ r ≡ rangeRow range ⌝ }
 {
     [
-        word(range.from),
-        word(range.to),
+        fields::bits_of(range.from),
+        fields::bits_of(range.to),
         yes_word(range.inclusive),
         range.target as u64,
     ]

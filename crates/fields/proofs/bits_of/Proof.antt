@@ -2,9 +2,9 @@
 use mathlib.Core.Path.{sym}
 use native.Mathlib.Omega.{arith}
 use Rattle.varint.proofs.Halves.{not-negative, negative}
-use Rattle.switches.proofs.Bits.{not-negative-bits, negative-bits}
-use Rattle.switches.proofs.ranges.word.Statement.{statement}
-use Rattle.switches.proofs.ranges.word.Tie as tie
+use Rattle.fields.proofs.Bits.{not-negative-bits, negative-bits}
+use Rattle.fields.proofs.bits_of.Statement.{statement}
+use Rattle.fields.proofs.bits_of.Tie as tie
 
 cast-result : tie.Need-cast-result
 cast-result c = let half = not-negative _ (c .before .fits .z) (c .if1 .taken) in rw (half .is) (tt, record { fits = omega (arith, half .small) })
@@ -18,5 +18,5 @@ returns c = not-negative-bits _ (c .before .fits .z) (c .if1 .taken)
 returns-2 : tie.Need-returns-2
 returns-2 c = negative-bits _ (c .before .fits .z) (c .if1 .left)
 
-pub word-spec : {M : Type 1} → statement M
-word-spec = tie.close (tie.spec cast-result cast-result-2 returns returns-2)
+pub bits-of-spec : {M : Type 1} → statement M
+bits-of-spec = tie.close (tie.spec cast-result cast-result-2 returns returns-2)
