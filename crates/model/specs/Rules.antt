@@ -96,16 +96,16 @@ abbrev pub spanAt : ℕ → List ℕ → Span
 spanAt i row = record { start = word row i; size = word row (suc i) }
 
 -- a string, a blob and a function pointer have a text; of a blob's nothing is asked but that it lies there
-abbrev pub named : List ℕ → Bool
-named row = eqb (tag row) 0x06 || eqb (tag row) 0x0D
+abbrev pub named : ℕ → Bool
+named tag = eqb tag 0x06 || eqb tag 0x0D
 
-abbrev pub texted : List ℕ → Bool
-texted row = named row || eqb (tag row) 0x09
+abbrev pub texted : ℕ → Bool
+texted tag = named tag || eqb tag 0x09
 
 -- a test of the text of each constant of some tags, of each key, token, and of both tokens of each assign record
-abbrev pub texts : (List ℕ → Bool) → (Span → Bool) → Lent → Bool
+abbrev pub texts : (ℕ → Bool) → (Span → Bool) → Lent → Bool
 texts which test m =
-    every (λ row. not (which row) || test (spanAt 3 row)) (constantRows m)
+    every (λ row. not (which (tag row)) || test (spanAt 3 row)) (constantRows m)
     && (every (λ row. test (spanAt 6 row)) (keyed (constantRows m))
     && (every (λ row. test (spanAt 0 row)) (tokenRows m)
     && every (λ row. test (spanAt 0 row) && test (spanAt 3 row)) (assignRows m)))
@@ -223,12 +223,17 @@ abbrev pub soundChain : List ℕ → Bool
 soundChain row = soundRoot row && (bits 16 (word row 5) && (not (eqb (word row 7) 3) || bits 32 (word row 8)))
 
 -- steps: tag, flags, operand, name, getter, setter, argument count, line, column, bracket line, bracket column
-abbrev pub soundStep : List ℕ → Bool
-soundStep row =
-    soundPosition (word row 7) (word row 8)
-    && (if eqb (tag row) 1 then bits 16 (word row 2) && soundPosition (word row 9) (word row 10)
+abbrev pub soundByTag : List ℕ → Bool
+soundByTag row =
+    if eqb (tag row) 1 then bits 16 (word row 2) && soundPosition (word row 9) (word row 10)
     else (if eqb (tag row) 2 then bits 32 (word row 3) && (bits 32 (word row 4) && bits 32 (word row 5))
-    else bits 32 (word row 3) && (bits 8 (word row 6) && bits 16 (word row 2))))
+    else bits 32 (word row 3) && (bits 8 (word row 6) && bits 16 (word row 2)))
+
+abbrev pub soundStep : List ℕ → Bool
+soundStep row = soundPosition (word row 7) (word row 8) && soundByTag row
+
+abbrev pub soundSwitch : List ℕ → Bool
+soundSwitch row = bits 32 (word row 2)
 
 abbrev pub soundCase : List ℕ → Bool
 soundCase row = bits 32 (word row 0) && bits 32 (word row 1)
@@ -257,7 +262,7 @@ rule9 m =
     && (every soundAssign (assignRows m)
     && (every soundChain (chainRows m)
     && (every soundStep (stepRows m)
-    && (every (λ row. bits 32 (word row 2)) (switchRows m)
+    && (every soundSwitch (switchRows m)
     && (every soundCase (caseRows m)
     && (every soundRange (rangeRows m)
     && (every soundSite (customRows m)

@@ -1,0 +1,63 @@
+-- The loop stands by one law for all tables (Standing).
+use mathlib.Core.Path.{sym, _∙_}
+use Prim.Native.Nat.{_-_}
+use native.Mathlib.Omega.{arith}
+use borrow.Author.Needs.{needs}
+use borrow.Author.Tests.{not-true, not-false}
+use Rattle.rules.specs.Keeps.{keepsChain}
+use Rattle.rules.proofs.Standing.{Standing, standing-none, standing-fails, standing-next, standing-end}
+use Rattle.rules.proofs.each.chains.Statement.{statement}
+use Rattle.rules.proofs.each.chains.Tie as tie
+
+abbrev Inv-loop : tie.InvT-loop
+Inv-loop rule t used k₀ k = Standing (keepsChain rule) 9 t used k
+
+abbrev μ-loop : tie.MeasureT-loop
+μ-loop rule t used k₀ k = used - k
+
+loop-holds : tie.Need-loop-holds Inv-loop μ-loop
+loop-holds c = standing-none _ _ _ _
+
+mul-of-nine : tie.Need-mul-of-nine Inv-loop μ-loop
+mul-of-nine c = omega arith
+
+of-nine-requires : tie.Need-of-nine-requires Inv-loop μ-loop
+of-nine-requires c κs = omega arith
+
+chain-keeps-requires : tie.Need-chain-keeps-requires Inv-loop μ-loop
+chain-keeps-requires c κs = search needs
+
+returns : tie.Need-returns Inv-loop μ-loop
+returns c =
+    standing-fails _ _ _ _ (c .before .before .before .before .loop .inv) (omega arith)
+    (rw (c .before .before .of-nine .ensures) at (sym (c .before .chain-keeps .ensures)) ∙ not-true _ (c .if1 .taken))
+
+add-k : tie.Need-add-k Inv-loop μ-loop
+add-k c = search needs
+
+loop-less : tie.Need-loop-less Inv-loop μ-loop
+loop-less c = search needs
+
+loop-again : tie.Need-loop-again Inv-loop μ-loop
+loop-again c =
+    standing-next _ _ _ _ (c .before .before .before .before .loop .inv) (omega arith)
+    (rw (c .before .before .of-nine .ensures) at (sym (c .before .chain-keeps .ensures)) ∙ not-false _ (c .if1 .left))
+
+returns-2 : tie.Need-returns-2 Inv-loop μ-loop
+returns-2 c = standing-end _ _ _ _ (c .before .loop .inv) (omega arith)
+
+pub chains-spec : {M : Type 1} → statement M
+chains-spec =
+    tie.close
+    (tie.spec
+    Inv-loop
+    μ-loop
+    loop-holds
+    mul-of-nine
+    of-nine-requires
+    chain-keeps-requires
+    returns
+    add-k
+    loop-less
+    loop-again
+    returns-2)

@@ -1,0 +1,2 @@
+-- What each row is asked by the rule that is told.
+pub mod Keeps

@@ -1,0 +1,7 @@
+// The rules of well-formed tables as tests (document 01, "Well-formed tables, and writing"; specs/Rules.antt of model).
+
+pub mod each;
+pub mod records;
+pub mod row;
+pub mod texts;
+pub mod words;
