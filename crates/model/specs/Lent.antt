@@ -8,8 +8,10 @@ use Rattle.grammar.specs.declared.Span.{Span}
 use Rattle.reading.specs.declared.answer.Artifact.{Artifact}
 use Rattle.rows.specs.Back.{cut}
 
+-- `numbersFit` says that the numbers outside the tables fit their kinds: those of a struct do, and a caller that has words says it
 pub record Lent : Type 0 where
   pub outside : Artifact
+  pub numbersFit : Bool
   pub ends : List ℕ
   pub constants : List ℕ
   pub tokens : List ℕ

@@ -258,7 +258,8 @@ soundWord row = bits 32 (word row 0)
 
 abbrev pub rule9 : Lent → Bool
 rule9 m =
-    every soundWord (endRows m)
+    m .numbersFit
+    && (every soundWord (endRows m)
     && (every soundAssign (assignRows m)
     && (every soundChain (chainRows m)
     && (every soundStep (stepRows m)
@@ -268,7 +269,7 @@ rule9 m =
     && (every soundSite (customRows m)
     && (every soundInput (inputRows m)
     && (every soundFunction (functionRows m)
-    && every soundWord (parameterRows m))))))))))
+    && every soundWord (parameterRows m)))))))))))
 
 -- ── 10. a position table is empty or checks ──
 

@@ -1,11 +1,14 @@
--- WHAT WRITING ANSWERS AND LEAVES: the lowest broken rule, then NoRoom, else the bytes of what the tables mean, in front.
-use Prim.Native.Nat.{ℕ}
+-- WHAT WRITING ANSWERS AND LEAVES: BadModel with the lowest broken rule, then NoRoom with the bytes needed; else the bytes of what the
+-- tables mean stand in front of the output, and the rest of it stays. A refusal leaves the output untouched.
+use Prim.Native.Nat.{ℕ, zero, suc}
+use mathlib.Core.Path.{_≡_}
 use mathlib.Core.Bool.{Bool, true, false}
 use mathlib.Core.List.{List, _++_}
 use lib.ListN.{length, drop}
-use lib.Dec.{leb, ltb}
+use lib.Dec.{leb}
 use Rattle.refusal.specs.declared.Refusal.{Refusal}
 use Rattle.grammar.specs.Combinators.{if_then_else_}
+use Rattle.varint.specs.declared.Written.{Written}
 use Rattle.written.specs.Meaning.{Meaning}
 use Rattle.written.specs.Put.{put}
 use Rattle.written.specs.Strip.{strip}
@@ -25,8 +28,38 @@ bytesOf stripped m = put (inWay stripped (meaningOf m))
 abbrev pub rule11 : Bool → Lent → Bool
 rule11 stripped m = leb (length (bytesOf stripped m)) 1048576
 
--- the lowest broken rule; 0 is none
+-- the first of the tests that fails, by its number; 0 where none does
+abbrev pub orElse : Bool → ℕ → ℕ → ℕ
+orElse holds rule rest = if holds then rest else rule
+
+unfoldable pub brokenOfTen : ℕ → Lent → ℕ
+brokenOfTen mask m =
+    orElse (rule1 m) 1 (orElse (rule2 m) 2 (orElse (rule3 m) 3 (orElse (rule4 m) 4 (orElse (rule5 mask m) 5
+    (orElse (rule6 m) 6 (orElse (rule7 m) 7 (orElse (rule8 m) 8 (orElse (rule9 m) 9 (orElse (rule10 m) 10 0)))))))))
+
+abbrev pub elseEleven : ℕ → Bool → ℕ
+elseEleven zero holds = orElse holds 11 0
+elseEleven (suc rule) holds = suc rule
+
+-- the lowest broken rule
 unfoldable pub lowestBroken : ℕ → Bool → Lent → ℕ
-lowestBroken mask stripped m =
-    if rule1 m then (if rule2 m then (if rule3 m then (if rule4 m then (if rule5 mask m then (if rule6 m then (if rule7 m then (if rule8 m then
-    (if rule9 m then (if rule10 m then (if rule11 stripped m then 0 else 11) else 10) else 9) else 8) else 7) else 6) else 5) else 4) else 3) else 2) else 1
+lowestBroken mask stripped m = elseEleven (brokenOfTen mask m) (rule11 stripped m)
+
+abbrev pub roomed : List ℕ → List ℕ → Written
+roomed bytes out = if leb (length bytes) (length out) then Written.Done (length bytes) else Written.Refused (Refusal.NoRoom (length bytes))
+
+abbrev pub inFront : List ℕ → List ℕ → List ℕ
+inFront bytes out = if leb (length bytes) (length out) then bytes ++ drop (length bytes) out else out
+
+abbrev pub answered : ℕ → List ℕ → List ℕ → Written
+answered zero bytes out = roomed bytes out
+answered (suc rule) bytes out = Written.Refused (Refusal.BadModel (suc rule))
+
+abbrev pub left : ℕ → List ℕ → List ℕ → List ℕ
+left zero bytes out = inFront bytes out
+left (suc rule) bytes out = out
+
+-- for every tables, spans and counts, mask, way and output
+pub record Writes (mask : ℕ) (stripped : Bool) (m : Lent) (entry exit : List ℕ) (answer : Written) : Type 0 where
+  pub result : answer ≡ answered (lowestBroken mask stripped m) (bytesOf stripped m) entry
+  pub output : exit ≡ left (lowestBroken mask stripped m) (bytesOf stripped m) entry
