@@ -60,19 +60,13 @@ total i (row ∷ rows) = word row i + total i rows
 
 abbrev pub countsFit : Lent → Bool
 countsFit m =
-    fits (m .outside .used .names) 1 (m .ends)
-    && (fits (m .outside .used .constants) 8 (m .constants)
-    && (fits (m .outside .used .tokens) 2 (m .tokens)
-    && (fits (m .outside .used .assigns) 6 (m .assigns)
-    && (fits (m .outside .used .chains) 9 (m .chains)
-    && (fits (m .outside .used .steps) 11 (m .steps)
+    ((fits (m .outside .used .names) 1 (m .ends) && fits (m .outside .used .constants) 8 (m .constants))
+    && (fits (m .outside .used .tokens) 2 (m .tokens) && fits (m .outside .used .assigns) 6 (m .assigns)))
+    && (((fits (m .outside .used .chains) 9 (m .chains) && fits (m .outside .used .steps) 11 (m .steps))
     && (fits (m .outside .used .switches) 3 (m .switches)
-    && (fits (m .outside .used .cases) 2 (m .cases)
-    && (fits (m .outside .used .ranges) 4 (m .ranges)
-    && (fits (m .outside .used .customs) 3 (m .customs)
-    && (fits (m .outside .used .inputs) 5 (m .inputs)
-    && (fits (m .outside .used .functions) 7 (m .functions)
-    && fits (m .outside .used .parameters) 1 (m .parameters))))))))))))
+    && (fits (m .outside .used .cases) 2 (m .cases) && fits (m .outside .used .ranges) 4 (m .ranges))))
+    && ((fits (m .outside .used .customs) 3 (m .customs) && fits (m .outside .used .inputs) 5 (m .inputs))
+    && (fits (m .outside .used .functions) 7 (m .functions) && fits (m .outside .used .parameters) 1 (m .parameters))))
 
 abbrev pub sharesFit : Lent → Bool
 sharesFit m =

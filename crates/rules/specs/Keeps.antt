@@ -1,10 +1,12 @@
 -- What a row of each table is asked by the rule that is told: a line for each rule that looks at the table.
-use Prim.Native.Nat.{ℕ}
+use Prim.Native.Nat.{ℕ, _/_}
 use mathlib.Core.Bool.{Bool, not, _&&_, _||_}
 use mathlib.Core.List.{List}
+use lib.ListN.{getD}
 use lib.Dec.{leb, ltb, eqb}
 use Rattle.grammar.specs.declared.Span.{Span}
 use Rattle.grammar.specs.Combinators.{if_then_else_}
+use Rattle.reading.specs.declared.answer.Used.{Used}
 use Rattle.format.specs.File.{scalar}
 use Rattle.rows.specs.Back.{word}
 use Rattle.model.specs.Rules.{tag, lies, isText, spanAt, named, texted, knownConstant, knownChain, knownStep, soundAssign, soundChain, soundStep, soundCase, soundFunction}
@@ -53,3 +55,15 @@ keepsFunction rule row = if eqb rule 5 then leb (word row 1) 1 else soundFunctio
 -- 8 and 9
 abbrev pub keepsCase : ℕ → ℕ → List ℕ → Bool
 keepsCase rule tops row = if eqb rule 8 then ltb (word row 1) tops else soundCase row
+
+-- rule 1, its first half, of how many words each table has
+abbrev pub switchCounts : Used → List ℕ → Bool
+switchCounts u words = leb (u .switches) (getD words 6 0 / 3) && (leb (u .cases) (getD words 7 0 / 2) && leb (u .ranges) (getD words 8 0 / 4))
+
+abbrev pub countsOf : Used → List ℕ → Bool
+countsOf u words =
+    ((leb (u .names) (getD words 0 0 / 1) && leb (u .constants) (getD words 1 0 / 8))
+    && (leb (u .tokens) (getD words 2 0 / 2) && leb (u .assigns) (getD words 3 0 / 6)))
+    && (((leb (u .chains) (getD words 4 0 / 9) && leb (u .steps) (getD words 5 0 / 11)) && switchCounts u words)
+    && ((leb (u .customs) (getD words 9 0 / 3) && leb (u .inputs) (getD words 10 0 / 5))
+    && (leb (u .functions) (getD words 11 0 / 7) && leb (u .parameters) (getD words 12 0 / 1))))

@@ -1,5 +1,6 @@
 // The rules of well-formed tables as tests (document 01, "Well-formed tables, and writing"; specs/Rules.antt of model).
 
+pub mod counts;
 pub mod each;
 pub mod records;
 pub mod row;
