@@ -14,8 +14,9 @@ use Rattle.pos.specs.declared.Checked.{Checked}
 use Rattle.pos.specs.Table.{checked}
 use Rattle.format.specs.File.{rising, lastEnd, scalar}
 use Rattle.format.specs.Artifact.{levels}
-use Rattle.rows.specs.Back.{word}
-use Rattle.model.specs.Lent.{Lent, endRows, constantRows, tokenRows, assignRows, chainRows, stepRows, switchRows, caseRows, rangeRows, customRows, inputRows, functionRows, parameterRows, clip, every}
+use Rattle.reading.specs.declared.answer.Used.{Used}
+use Rattle.rows.specs.Back.{cut, word}
+use Rattle.model.specs.Lent.{Lent, constantRows, caseRows, clip, every}
 
 -- ── how constants follow each other ──
 
@@ -68,17 +69,20 @@ countsFit m =
     && ((fits (m .outside .used .customs) 3 (m .customs) && fits (m .outside .used .inputs) 5 (m .inputs))
     && (fits (m .outside .used .functions) 7 (m .functions) && fits (m .outside .used .parameters) 1 (m .parameters))))
 
-abbrev pub sharesFit : Lent → Bool
-sharesFit m =
-    exactly (constantRows m) (m .outside .tops)
-    && (eqb (total 6 (chainRows m)) (m .outside .used .steps)
-    && (eqb (total 0 (switchRows m)) (m .outside .used .cases)
-    && (eqb (total 1 (switchRows m)) (m .outside .used .ranges)
-    && (eqb (total 2 (customRows m)) (m .outside .used .inputs)
-    && eqb (total 3 (functionRows m)) (m .outside .used .parameters)))))
+-- the constants' rows, and the shares of steps, cases, ranges, inputs and parameters
+abbrev pub sharesFit : Used → ℕ → (constants chains switches customs functions : List ℕ) → Bool
+sharesFit u tops constants chains switches customs functions =
+    exactly (cut 8 (u .constants) constants) tops
+    && (eqb (total 6 (cut 9 (u .chains) chains)) (u .steps)
+    && (eqb (total 0 (cut 3 (u .switches) switches)) (u .cases)
+    && (eqb (total 1 (cut 3 (u .switches) switches)) (u .ranges)
+    && (eqb (total 2 (cut 3 (u .customs) customs)) (u .inputs)
+    && eqb (total 3 (cut 7 (u .functions) functions)) (u .parameters)))))
 
 abbrev pub rule1 : Lent → Bool
-rule1 m = countsFit m && sharesFit m
+rule1 m =
+    countsFit m
+    && sharesFit (m .outside .used) (m .outside .tops) (m .constants) (m .chains) (m .switches) (m .customs) (m .functions)
 
 -- ── 2. spans lie in the lent text ──
 
@@ -97,12 +101,12 @@ abbrev pub texted : ℕ → Bool
 texted tag = named tag || eqb tag 0x09
 
 -- a test of the text of each constant of some tags, of each key, token, and of both tokens of each assign record
-abbrev pub texts : (ℕ → Bool) → (Span → Bool) → Lent → Bool
-texts which test m =
-    every (λ row. not (which (tag row)) || test (spanAt 3 row)) (constantRows m)
-    && (every (λ row. test (spanAt 6 row)) (keyed (constantRows m))
-    && (every (λ row. test (spanAt 0 row)) (tokenRows m)
-    && every (λ row. test (spanAt 0 row) && test (spanAt 3 row)) (assignRows m)))
+abbrev pub texts : (ℕ → Bool) → (Span → Bool) → Used → (constants tokens assigns : List ℕ) → Bool
+texts which test u constants tokens assigns =
+    (every (λ row. not (which (tag row)) || test (spanAt 3 row)) (cut 8 (u .constants) constants)
+    && every (λ row. test (spanAt 6 row)) (keyed (cut 8 (u .constants) constants)))
+    && (every (λ row. test (spanAt 0 row)) (cut 2 (u .tokens) tokens)
+    && every (λ row. test (spanAt 0 row) && test (spanAt 3 row)) (cut 6 (u .assigns) assigns))
 
 abbrev pub rule2 : Lent → Bool
 rule2 m =
@@ -110,7 +114,7 @@ rule2 m =
     && (lies (m .text) (m .outside .blob)
     && (lies (m .text) (m .outside .code)
     && (lies (m .text) (m .outside .positions)
-    && texts texted (lies (m .text)) m)))
+    && texts texted (lies (m .text)) (m .outside .used) (m .constants) (m .tokens) (m .assigns))))
 
 -- ── 3. strings are UTF-8 ──
 
@@ -118,7 +122,9 @@ abbrev pub isText : List ℕ → Span → Bool
 isText text span = isUtf8 (clip text span)
 
 abbrev pub rule3 : Lent → Bool
-rule3 m = isText (m .text) (m .outside .source) && texts named (isText (m .text)) m
+rule3 m =
+    isText (m .text) (m .outside .source)
+    && texts named (isText (m .text)) (m .outside .used) (m .constants) (m .tokens) (m .assigns)
 
 -- ── 4. the names rule: ends never fall, the last end (or 0) equals the blob length, the whole blob is UTF-8 ──
 
@@ -142,12 +148,16 @@ knownChain row = among 4 (tag row) && among 3 (word row 7)
 abbrev pub knownStep : ℕ → List ℕ → Bool
 knownStep mask row = among 3 (tag row) && eqb (bitAnd (word row 1) mask) (word row 1)
 
+abbrev pub knownFunction : List ℕ → Bool
+knownFunction row = leb (word row 1) 1
+
+abbrev pub known : ℕ → Used → (constants chains steps functions : List ℕ) → Bool
+known mask u constants chains steps functions =
+    (every knownConstant (cut 8 (u .constants) constants) && every knownChain (cut 9 (u .chains) chains))
+    && (every (knownStep mask) (cut 11 (u .steps) steps) && every knownFunction (cut 7 (u .functions) functions))
+
 abbrev pub rule5 : ℕ → Lent → Bool
-rule5 mask m =
-    every knownConstant (constantRows m)
-    && (every knownChain (chainRows m)
-    && (every (knownStep mask) (stepRows m)
-    && every (λ row. leb (word row 1) 1) (functionRows m)))
+rule5 mask m = known mask (m .outside .used) (m .constants) (m .chains) (m .steps) (m .functions)
 
 -- ── 6. depth at most 64 ──
 
@@ -250,20 +260,27 @@ soundFunction row =
 abbrev pub soundWord : List ℕ → Bool
 soundWord row = bits 32 (word row 0)
 
+abbrev pub soundFront : Used → (ends assigns chains steps : List ℕ) → Bool
+soundFront u ends assigns chains steps =
+    (every soundWord (cut 1 (u .names) ends) && every soundAssign (cut 6 (u .assigns) assigns))
+    && (every soundChain (cut 9 (u .chains) chains) && every soundStep (cut 11 (u .steps) steps))
+
+abbrev pub soundSwitches : Used → (switches cases ranges : List ℕ) → Bool
+soundSwitches u switches cases ranges =
+    every soundSwitch (cut 3 (u .switches) switches)
+    && (every soundCase (cut 2 (u .cases) cases) && every soundRange (cut 4 (u .ranges) ranges))
+
+abbrev pub soundCallables : Used → (customs inputs functions parameters : List ℕ) → Bool
+soundCallables u customs inputs functions parameters =
+    (every soundSite (cut 3 (u .customs) customs) && every soundInput (cut 5 (u .inputs) inputs))
+    && (every soundFunction (cut 7 (u .functions) functions) && every soundWord (cut 1 (u .parameters) parameters))
+
 abbrev pub rule9 : Lent → Bool
 rule9 m =
     m .numbersFit
-    && (every soundWord (endRows m)
-    && (every soundAssign (assignRows m)
-    && (every soundChain (chainRows m)
-    && (every soundStep (stepRows m)
-    && (every soundSwitch (switchRows m)
-    && (every soundCase (caseRows m)
-    && (every soundRange (rangeRows m)
-    && (every soundSite (customRows m)
-    && (every soundInput (inputRows m)
-    && (every soundFunction (functionRows m)
-    && every soundWord (parameterRows m)))))))))))
+    && (soundFront (m .outside .used) (m .ends) (m .assigns) (m .chains) (m .steps)
+    && (soundSwitches (m .outside .used) (m .switches) (m .cases) (m .ranges)
+    && soundCallables (m .outside .used) (m .customs) (m .inputs) (m .functions) (m .parameters)))
 
 -- ── 10. a position table is empty or checks ──
 
@@ -271,5 +288,8 @@ abbrev pub sound : Checked → Bool
 sound Checked.Sound = true
 sound (Checked.Refused r) = false
 
+abbrev pub soundTable : List ℕ → Span → Bool
+soundTable text span = eqb (span .size) 0 || sound (checked (clip text span))
+
 abbrev pub rule10 : Lent → Bool
-rule10 m = eqb (m .outside .positions .size) 0 || sound (checked (clip (m .text) (m .outside .positions)))
+rule10 m = soundTable (m .text) (m .outside .positions)

@@ -9,7 +9,7 @@ use Rattle.grammar.specs.Combinators.{if_then_else_}
 use Rattle.reading.specs.declared.answer.Used.{Used}
 use Rattle.format.specs.File.{scalar}
 use Rattle.rows.specs.Back.{word}
-use Rattle.model.specs.Rules.{tag, lies, isText, spanAt, named, texted, knownConstant, knownChain, knownStep, soundAssign, soundChain, soundStep, soundCase, soundFunction}
+use Rattle.model.specs.Rules.{tag, lies, isText, spanAt, named, texted, knownConstant, knownChain, knownStep, knownFunction, soundAssign, soundChain, soundStep, soundCase, soundFunction}
 
 -- a text: that it lies there (2), that it is UTF-8 (3)
 abbrev pub keepsSpan : ℕ → List ℕ → Span → Bool
@@ -50,7 +50,7 @@ abbrev pub keepsStep : ℕ → ℕ → List ℕ → Bool
 keepsStep rule mask row = if eqb rule 5 then knownStep mask row else soundStep row
 
 abbrev pub keepsFunction : ℕ → List ℕ → Bool
-keepsFunction rule row = if eqb rule 5 then leb (word row 1) 1 else soundFunction row
+keepsFunction rule row = if eqb rule 5 then knownFunction row else soundFunction row
 
 -- 8 and 9
 abbrev pub keepsCase : ℕ → ℕ → List ℕ → Bool

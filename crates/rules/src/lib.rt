@@ -2,7 +2,9 @@
 
 pub mod counts;
 pub mod each;
+pub mod positions;
 pub mod records;
 pub mod row;
 pub mod texts;
+pub mod whole;
 pub mod words;

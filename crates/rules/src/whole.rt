@@ -1,0 +1,100 @@
+// Rules that look at several tables. That the rows are there was tested before (rule 1).
+ghost use mathlib.Core.Path.{_≡_};
+ghost use Prim.Native.Nat.{_*_, _≤_};
+ghost use lib.ListN.{length};
+ghost use Rattle.model.specs.Rules as definition;
+use crate::each;
+use crate::words::both;
+use reading::answer::Used;
+
+// 5. tags and access known, flags within the mask
+pub fn known(
+    mask: u8,
+    u: Used,
+    constants: &[u64],
+    chains: &[u64],
+    steps: &[u64],
+    functions: &[u64],
+    text: &[u8],
+) -> bool
+    requires { ⌜ u .constants * 8 ≤ length (now constants) ⌝ }
+    requires { ⌜ u .chains * 9 ≤ length (now chains) ⌝ }
+    requires { ⌜ u .steps * 11 ≤ length (now steps) ⌝ }
+    requires { ⌜ u .functions * 7 ≤ length (now functions) ⌝ }
+    ensures { λ r. ⌜ r ≡ definition.known mask u (now (constants .entry)) (now (chains .entry)) (now (steps .entry)) (now (functions .entry)) ⌝ }
+{
+    let front = both(
+        each::constants(5, constants, u.constants, text),
+        each::chains(5, chains, u.chains),
+    );
+    let behind = both(
+        each::steps(5, mask, steps, u.steps),
+        each::functions(5, functions, u.functions),
+    );
+    both(front, behind)
+}
+
+// 9. numbers fit their kinds, positions and what is yes or no: names, assign records, chains and steps
+pub fn sound_front(
+    u: Used,
+    ends: &[u64],
+    assigns: &[u64],
+    chains: &[u64],
+    steps: &[u64],
+    text: &[u8],
+) -> bool
+    requires { ⌜ u .names ≤ length (now ends) ⌝ }
+    requires { ⌜ u .assigns * 6 ≤ length (now assigns) ⌝ }
+    requires { ⌜ u .chains * 9 ≤ length (now chains) ⌝ }
+    requires { ⌜ u .steps * 11 ≤ length (now steps) ⌝ }
+    ensures { λ r. ⌜ r ≡ definition.soundFront u (now (ends .entry)) (now (assigns .entry)) (now (chains .entry)) (now (steps .entry)) ⌝ }
+{
+    let front = both(
+        each::indices(ends, u.names),
+        each::assigns(9, assigns, u.assigns, text),
+    );
+    let behind = both(
+        each::chains(9, chains, u.chains),
+        each::steps(9, 0, steps, u.steps),
+    );
+    both(front, behind)
+}
+
+// switches, cases and ranges
+pub fn sound_switches(u: Used, switches: &[u64], cases: &[u64], ranges: &[u64]) -> bool
+    requires { ⌜ u .switches * 3 ≤ length (now switches) ⌝ }
+    requires { ⌜ u .cases * 2 ≤ length (now cases) ⌝ }
+    requires { ⌜ u .ranges * 4 ≤ length (now ranges) ⌝ }
+    ensures { λ r. ⌜ r ≡ definition.soundSwitches u (now (switches .entry)) (now (cases .entry)) (now (ranges .entry)) ⌝ }
+{
+    let items = both(
+        each::cases(9, 0, cases, u.cases),
+        each::ranges(ranges, u.ranges),
+    );
+    both(each::switches(switches, u.switches), items)
+}
+
+// custom sites and functions, inputs and parameters
+pub fn sound_callables(
+    u: Used,
+    customs: &[u64],
+    inputs: &[u64],
+    functions: &[u64],
+    parameters: &[u64],
+) -> bool
+    requires { ⌜ u .customs * 3 ≤ length (now customs) ⌝ }
+    requires { ⌜ u .inputs * 5 ≤ length (now inputs) ⌝ }
+    requires { ⌜ u .functions * 7 ≤ length (now functions) ⌝ }
+    requires { ⌜ u .parameters ≤ length (now parameters) ⌝ }
+    ensures { λ r. ⌜ r ≡ definition.soundCallables u (now (customs .entry)) (now (inputs .entry)) (now (functions .entry)) (now (parameters .entry)) ⌝ }
+{
+    let front = both(
+        each::customs(customs, u.customs),
+        each::inputs(inputs, u.inputs),
+    );
+    let behind = both(
+        each::functions(9, functions, u.functions),
+        each::indices(parameters, u.parameters),
+    );
+    both(front, behind)
+}
