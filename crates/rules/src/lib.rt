@@ -2,9 +2,12 @@
 
 pub mod counts;
 pub mod each;
+pub mod names;
 pub mod positions;
 pub mod records;
 pub mod row;
+pub mod shares;
 pub mod texts;
+pub mod trees;
 pub mod whole;
 pub mod words;
