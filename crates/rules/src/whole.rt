@@ -4,8 +4,79 @@ ghost use Prim.Native.Nat.{_*_, _≤_};
 ghost use lib.ListN.{length};
 ghost use Rattle.model.specs.Rules as definition;
 use crate::each;
+use crate::shares::shares_use;
+use crate::trees;
 use crate::words::both;
 use reading::answer::Used;
+
+// 1. shares use their tables exactly
+pub fn shares_fit(
+    u: Used,
+    tops: usize,
+    constants: &[u64],
+    chains: &[u64],
+    switches: &[u64],
+    customs: &[u64],
+    functions: &[u64],
+) -> bool
+    requires { ⌜ u .constants * 8 ≤ length (now constants) ⌝ }
+    requires { ⌜ u .chains * 9 ≤ length (now chains) ⌝ }
+    requires { ⌜ u .switches * 3 ≤ length (now switches) ⌝ }
+    requires { ⌜ u .customs * 3 ≤ length (now customs) ⌝ }
+    requires { ⌜ u .functions * 7 ≤ length (now functions) ⌝ }
+    ensures { λ r. ⌜ r ≡ definition.sharesFit u tops (now (constants .entry)) (now (chains .entry)) (now (switches .entry)) (now (customs .entry)) (now (functions .entry)) ⌝ }
+{
+    let callables = both(
+        shares_use(customs, 3, 2, u.customs, u.inputs),
+        shares_use(functions, 7, 3, u.functions, u.parameters),
+    );
+    let ranges = both(shares_use(switches, 3, 1, u.switches, u.ranges), callables);
+    let cases = both(shares_use(switches, 3, 0, u.switches, u.cases), ranges);
+    let steps = both(shares_use(chains, 9, 6, u.chains, u.steps), cases);
+    both(trees::exactly(constants, u.constants, tops), steps)
+}
+
+// 2. spans lie in the lent text: those of the tables
+pub fn texts_lie(u: Used, constants: &[u64], tokens: &[u64], assigns: &[u64], text: &[u8]) -> bool
+    requires { ⌜ u .constants * 8 ≤ length (now constants) ⌝ }
+    requires { ⌜ u .tokens * 2 ≤ length (now tokens) ⌝ }
+    requires { ⌜ u .assigns * 6 ≤ length (now assigns) ⌝ }
+    ensures { λ r. ⌜ r ≡ definition.texts definition.texted (definition.lies (now (text .entry))) u (now (constants .entry)) (now (tokens .entry)) (now (assigns .entry)) ⌝ }
+{
+    let tree = both(
+        each::constants(2, constants, u.constants, text),
+        trees::keys(2, constants, u.constants, text),
+    );
+    let tokens = both(
+        each::tokens(2, tokens, u.tokens, text),
+        each::assigns(2, assigns, u.assigns, text),
+    );
+    both(tree, tokens)
+}
+
+// 3. strings are UTF-8: those of the tables
+pub fn texts_are_utf8(
+    u: Used,
+    constants: &[u64],
+    tokens: &[u64],
+    assigns: &[u64],
+    text: &[u8],
+) -> bool
+    requires { ⌜ u .constants * 8 ≤ length (now constants) ⌝ }
+    requires { ⌜ u .tokens * 2 ≤ length (now tokens) ⌝ }
+    requires { ⌜ u .assigns * 6 ≤ length (now assigns) ⌝ }
+    ensures { λ r. ⌜ r ≡ definition.texts definition.named (definition.isText (now (text .entry))) u (now (constants .entry)) (now (tokens .entry)) (now (assigns .entry)) ⌝ }
+{
+    let tree = both(
+        each::constants(3, constants, u.constants, text),
+        trees::keys(3, constants, u.constants, text),
+    );
+    let tokens = both(
+        each::tokens(3, tokens, u.tokens, text),
+        each::assigns(3, assigns, u.assigns, text),
+    );
+    both(tree, tokens)
+}
 
 // 5. tags and access known, flags within the mask
 pub fn known(
