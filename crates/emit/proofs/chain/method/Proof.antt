@@ -1,0 +1,42 @@
+-- One field behind another.
+use Rattle.emit.proofs.Laws.{puts-then}
+use borrow.Author.Needs.{needs}
+use Rattle.emit.proofs.chain.method.Statement.{statement}
+use Rattle.emit.proofs.chain.method.Tie as tie
+
+byte-requires : tie.Need-byte-requires
+byte-requires c κs = search needs
+
+byte-requires-2 : tie.Need-byte-requires-2
+byte-requires-2 c κs = search needs
+
+name-requires : tie.Need-name-requires
+name-requires c κs = search needs
+
+byte-requires-3 : tie.Need-byte-requires-3
+byte-requires-3 c κs = search needs
+
+number-requires : tie.Need-number-requires
+number-requires c κs = search needs
+
+position-requires : tie.Need-position-requires
+position-requires c κs = search needs
+
+same-length : tie.Need-same-length
+same-length c = search needs
+
+returns : tie.Need-returns
+returns c = puts-then (c .before .before .before .before .before .before .before .before .before .before .before .before .before .before .before .before .before .before .before .before .before .before .byte .ensures) (puts-then (c .before .before .before .before .before .before .before .before .before .before .before .before .before .before .before .before .before .before .byte2 .ensures) (puts-then (c .before .before .before .before .before .before .before .before .before .before .before .before .before .before .name .ensures) (puts-then (c .before .before .before .before .before .before .before .before .before .before .byte3 .ensures) (puts-then (c .before .before .before .before .before .before .number .ensures) (c .before .before .position .ensures)))))
+
+pub method-spec : {M : Type 1} → statement M
+method-spec =
+    tie.close
+    (tie.spec
+    byte-requires
+    byte-requires-2
+    name-requires
+    byte-requires-3
+    number-requires
+    position-requires
+    same-length
+    returns)

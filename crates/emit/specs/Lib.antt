@@ -1,0 +1,4 @@
+-- What the contracts of this crate cite.
+pub mod Puts
+pub mod Ways
+pub mod Headers

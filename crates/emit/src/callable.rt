@@ -1,0 +1,46 @@
+// Custom syntax and functions: what their records hold beside their items.
+ghost use Rattle.written.specs.Put as definition;
+ghost use Rattle.emit.specs.Puts.{Puts};
+use crate::base::number;
+use crate::records::chunk;
+use format::records::Access;
+use format::records::Input;
+use format::records::Literal;
+use format::records::ThisType;
+
+pub fn literal(out: &mut [u8], at: usize, l: Literal) -> usize
+    ensures { λ r. ⌜ Puts (definition.putLiteral l) (now (out .entry)) at (now (out .exit)) r ⌝ }
+{
+    match l {
+        Literal::Absent => number(out, at, 0xffff_ffff),
+        Literal::Present { index } => number(out, at, index as u64),
+    }
+}
+
+pub fn input(out: &mut [u8], at: usize, i: Input) -> usize
+    ensures { λ r. ⌜ Puts (definition.putInput i) (now (out .entry)) at (now (out .exit)) r ⌝ }
+{
+    let code = i.chunk;
+    let told = i.literal;
+    let behind = chunk(out, at, code);
+    literal(out, behind, told)
+}
+
+pub fn access(out: &mut [u8], at: usize, a: Access) -> usize
+    ensures { λ r. ⌜ Puts (definition.putAccess a) (now (out .entry)) at (now (out .exit)) r ⌝ }
+{
+    match a {
+        Access::Public => number(out, at, 0),
+        Access::Private => number(out, at, 1),
+    }
+}
+
+// One higher than the index.
+pub fn this(out: &mut [u8], at: usize, t: ThisType) -> usize
+    ensures { λ r. ⌜ Puts (definition.putThis t) (now (out .entry)) at (now (out .exit)) r ⌝ }
+{
+    match t {
+        ThisType::Untyped => number(out, at, 0),
+        ThisType::Typed { index } => number(out, at, index as u64 + 1),
+    }
+}

@@ -1,0 +1,222 @@
+// Chains: where they start, their steps, and what they do at the end.
+ghost use mathlib.Core.Path.{_≡_};
+ghost use Rattle.written.specs.Put as definition;
+ghost use Rattle.written.specs.Strip as stripping;
+ghost use Rattle.emit.specs.Puts.{Puts};
+ghost use Rattle.emit.specs.Ways.{rootIn, stepIn};
+use crate::base::byte;
+use crate::base::number;
+use crate::records::name;
+use crate::records::position;
+use format::records::NameIndex;
+use format::records::OptionalPosition;
+use format::records::Root;
+use format::records::Step;
+use format::records::Tail;
+use format::tags::RootTag;
+use format::tags::StepTag;
+use format::tags::TailTag;
+
+pub fn root(out: &mut [u8], at: usize, r: Root) -> usize
+    ensures { λ next. ⌜ Puts (definition.putRoot r) (now (out .entry)) at (now (out .exit)) next ⌝ }
+{
+    match r {
+        Root::Local { slot, name: named } => {
+            let tag = byte(out, at, RootTag::LOCAL);
+            let behind = number(out, tag, slot as u64);
+            name(out, behind, named)
+        }
+        Root::Temporary => byte(out, at, RootTag::TEMPORARY),
+        Root::Named {
+            name: named,
+            position: from,
+        } => {
+            let tag = byte(out, at, RootTag::NAMED);
+            let behind = name(out, tag, named);
+            position(out, behind, from)
+        }
+        Root::This { position: from } => {
+            let tag = byte(out, at, RootTag::THIS);
+            position(out, tag, from)
+        }
+    }
+}
+
+fn index(
+    out: &mut [u8],
+    at: usize,
+    flags: u8,
+    operand: u16,
+    from: OptionalPosition,
+    bracket: OptionalPosition,
+) -> usize
+    ensures { λ next. ⌜ Puts (definition.putStep (Step.Index flags operand from bracket)) (now (out .entry)) at (now (out .exit)) next ⌝ }
+{
+    let tag = byte(out, at, StepTag::INDEX);
+    let flag = byte(out, tag, flags);
+    let behind = number(out, flag, operand as u64);
+    let place = position(out, behind, from);
+    position(out, place, bracket)
+}
+
+fn property(
+    out: &mut [u8],
+    at: usize,
+    flags: u8,
+    named: NameIndex,
+    getter: NameIndex,
+    setter: NameIndex,
+    from: OptionalPosition,
+) -> usize
+    ensures { λ next. ⌜ Puts (definition.putStep (Step.Property flags named getter setter from)) (now (out .entry)) at (now (out .exit)) next ⌝ }
+{
+    let tag = byte(out, at, StepTag::PROPERTY);
+    let flag = byte(out, tag, flags);
+    let behind = name(out, flag, named);
+    let got = name(out, behind, getter);
+    let set = name(out, got, setter);
+    position(out, set, from)
+}
+
+fn method(
+    out: &mut [u8],
+    at: usize,
+    flags: u8,
+    named: NameIndex,
+    argc: u8,
+    operand: u16,
+    from: OptionalPosition,
+) -> usize
+    ensures { λ next. ⌜ Puts (definition.putStep (Step.Method flags named argc operand from)) (now (out .entry)) at (now (out .exit)) next ⌝ }
+{
+    let tag = byte(out, at, StepTag::METHOD);
+    let flag = byte(out, tag, flags);
+    let behind = name(out, flag, named);
+    let counted = byte(out, behind, argc);
+    let place = number(out, counted, operand as u64);
+    position(out, place, from)
+}
+
+pub fn step(out: &mut [u8], at: usize, s: Step) -> usize
+    ensures { λ next. ⌜ Puts (definition.putStep s) (now (out .entry)) at (now (out .exit)) next ⌝ }
+{
+    match s {
+        Step::Index {
+            flags,
+            operand,
+            position: from,
+            bracket,
+        } => index(out, at, flags, operand, from, bracket),
+        Step::Property {
+            flags,
+            name: named,
+            getter,
+            setter,
+            position: from,
+        } => property(out, at, flags, named, getter, setter, from),
+        Step::Method {
+            flags,
+            name: named,
+            argc,
+            operand,
+            position: from,
+        } => method(out, at, flags, named, argc, operand, from),
+    }
+}
+
+pub fn tail(out: &mut [u8], at: usize, t: Tail) -> usize
+    ensures { λ next. ⌜ Puts (definition.putTail t) (now (out .entry)) at (now (out .exit)) next ⌝ }
+{
+    match t {
+        Tail::Read => byte(out, at, TailTag::READ),
+        Tail::Assign => byte(out, at, TailTag::ASSIGN),
+        Tail::AssignOp { op } => {
+            let tag = byte(out, at, TailTag::ASSIGN_OP);
+            number(out, tag, op.0 as u64)
+        }
+    }
+}
+
+pub fn strip_root(r: Root) -> Root
+    ensures { λ stripped. ⌜ stripped ≡ stripping.stripRoot r ⌝ }
+{
+    match r {
+        Root::Local { slot, name: named } => Root::Local { slot, name: named },
+        Root::Temporary => Root::Temporary,
+        Root::Named {
+            name: named,
+            position: _,
+        } => Root::Named {
+            name: named,
+            position: OptionalPosition::Absent,
+        },
+        Root::This { position: _ } => Root::This {
+            position: OptionalPosition::Absent,
+        },
+    }
+}
+
+pub fn strip_step(s: Step) -> Step
+    ensures { λ stripped. ⌜ stripped ≡ stripping.stripStep s ⌝ }
+{
+    match s {
+        Step::Index {
+            flags,
+            operand,
+            position: _,
+            bracket: _,
+        } => Step::Index {
+            flags,
+            operand,
+            position: OptionalPosition::Absent,
+            bracket: OptionalPosition::Absent,
+        },
+        Step::Property {
+            flags,
+            name: named,
+            getter,
+            setter,
+            position: _,
+        } => Step::Property {
+            flags,
+            name: named,
+            getter,
+            setter,
+            position: OptionalPosition::Absent,
+        },
+        Step::Method {
+            flags,
+            name: named,
+            argc,
+            operand,
+            position: _,
+        } => Step::Method {
+            flags,
+            name: named,
+            argc,
+            operand,
+            position: OptionalPosition::Absent,
+        },
+    }
+}
+
+// A root and a step in the way asked: with its positions, or stripped.
+pub fn root_in(out: &mut [u8], at: usize, strip: bool, r: Root) -> usize
+    ensures { λ next. ⌜ Puts (definition.putRoot (rootIn strip r)) (now (out .entry)) at (now (out .exit)) next ⌝ }
+{
+    if strip {
+        root(out, at, strip_root(r))
+    } else {
+        root(out, at, r)
+    }
+}
+
+pub fn step_in(out: &mut [u8], at: usize, strip: bool, s: Step) -> usize
+    ensures { λ next. ⌜ Puts (definition.putStep (stepIn strip s)) (now (out .entry)) at (now (out .exit)) next ⌝ }
+{
+    if strip {
+        step(out, at, strip_step(s))
+    } else {
+        step(out, at, s)
+    }
+}

@@ -1,0 +1,9 @@
+// Records, and tables of them, as bytes in a lent output: each function puts what written/specs/Put.antt says of its record, from a place
+// on, and answers the place behind (specs/Puts.antt). Into an empty output the same functions only count.
+
+pub mod base;
+pub mod callable;
+pub mod chain;
+pub mod header;
+pub mod records;
+pub mod switch;

@@ -1,0 +1,36 @@
+// Switches: cases and ranges.
+ghost use mathlib.Core.List.{[], _∷_};
+ghost use Rattle.grammar.specs.Combinators.{if_then_else_};
+ghost use Rattle.written.specs.Put as definition;
+ghost use Rattle.emit.specs.Puts.{Puts};
+use crate::base::byte;
+use crate::base::number;
+use crate::base::signed;
+use format::records::Case;
+use format::records::Range;
+
+pub fn case(out: &mut [u8], at: usize, c: Case) -> usize
+    ensures { λ r. ⌜ Puts (definition.putCase c) (now (out .entry)) at (now (out .exit)) r ⌝ }
+{
+    let behind = number(out, at, c.blocks as u64);
+    number(out, behind, c.constant.0 as u64)
+}
+
+fn inclusive(out: &mut [u8], at: usize, yes: bool) -> usize
+    ensures { λ r. ⌜ Puts ((if yes then 1 else 0) ∷ []) (now (out .entry)) at (now (out .exit)) r ⌝ }
+{
+    if yes {
+        byte(out, at, 1)
+    } else {
+        byte(out, at, 0)
+    }
+}
+
+pub fn range(out: &mut [u8], at: usize, g: Range) -> usize
+    ensures { λ r. ⌜ Puts (definition.putRange g) (now (out .entry)) at (now (out .exit)) r ⌝ }
+{
+    let from = signed(out, at, g.from);
+    let to = signed(out, from, g.to);
+    let told = inclusive(out, to, g.inclusive);
+    number(out, told, g.target as u64)
+}
