@@ -51,6 +51,9 @@ pub record Onward (all e : List ℕ) (at : ℕ) (rest out : List ℕ) (place : �
 pub onward-start : {front rest e m : List ℕ} {at mid : ℕ} → Puts front e at m mid → Onward (front ++ rest) e at rest m mid
 onward-start p = record { near = omega (arith, p .next); same = p .kept; onward = λ q. puts-then p q }
 
+pub onward-none : {all out : List ℕ} {place : ℕ} → place ≤ 1048577 → Onward all out place all out place
+onward-none near = record { near = near; same = refl; onward = λ q. q }
+
 module _ {all e rest out : List ℕ} {at place : ℕ} where
   pub onward-more : {a x : List ℕ} {next : ℕ} → Onward all e at (a ++ rest) out place → Puts a out place x next → Onward all e at rest x next
   onward-more g p = record { near = omega (arith, p .next); same = p .kept ∙ g .same; onward = λ q. g .onward (puts-then p q) }

@@ -1,3 +1,4 @@
--- The laws of putting: one thing behind another, and a text.
+-- The laws of putting: one thing behind another, a text, and a list of records.
 pub mod Laws
 pub mod Texts
+pub mod Listing

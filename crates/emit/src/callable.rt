@@ -1,8 +1,14 @@
 // Custom syntax and functions: what their records hold beside their items.
+ghost use Prim.Native.Nat.{_+_, _*_, _≤_};
+ghost use lib.ListN.{length, drop};
+ghost use Rattle.rows.specs.Back.{recordsOf, inputOf, parameterOf};
 ghost use Rattle.written.specs.Put as definition;
 ghost use Rattle.emit.specs.Puts.{Puts};
 use crate::base::number;
+use crate::places::input_at;
+use crate::places::parameter_at;
 use crate::records::chunk;
+use crate::records::name;
 use format::records::Access;
 use format::records::Input;
 use format::records::Literal;
@@ -43,4 +49,32 @@ pub fn this(out: &mut [u8], at: usize, t: ThisType) -> usize
         ThisType::Untyped => number(out, at, 0),
         ThisType::Typed { index } => number(out, at, index as u64 + 1),
     }
+}
+
+pub fn input_list(out: &mut [u8], at: usize, t: &[u64], from: usize, n: usize) -> usize
+    requires { ⌜ (from + n) * 5 ≤ length (now t) ⌝ }
+    ensures { λ r. ⌜ Puts (definition.putList definition.putInput (recordsOf 5 inputOf n (drop (from * 5) (now (t .entry))))) (now (out .entry)) at (now (out .exit)) r ⌝ }
+{
+    let end = from + n;
+    let mut place = number(out, at, n as u64);
+    let mut j = from;
+    while j < end {
+        place = input(out, place, input_at(t, j));
+        j += 1;
+    }
+    place
+}
+
+pub fn parameter_list(out: &mut [u8], at: usize, t: &[u64], from: usize, n: usize) -> usize
+    requires { ⌜ (from + n) * 1 ≤ length (now t) ⌝ }
+    ensures { λ r. ⌜ Puts (definition.putList definition.putName (recordsOf 1 parameterOf n (drop (from * 1) (now (t .entry))))) (now (out .entry)) at (now (out .exit)) r ⌝ }
+{
+    let end = from + n;
+    let mut place = number(out, at, n as u64);
+    let mut j = from;
+    while j < end {
+        place = name(out, place, parameter_at(t, j));
+        j += 1;
+    }
+    place
 }

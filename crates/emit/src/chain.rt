@@ -1,11 +1,15 @@
 // Chains: where they start, their steps, and what they do at the end.
 ghost use mathlib.Core.Path.{_≡_};
+ghost use Prim.Native.Nat.{_+_, _*_, _≤_};
+ghost use lib.ListN.{length, drop};
+ghost use Rattle.rows.specs.Back.{recordsOf, stepOf};
 ghost use Rattle.written.specs.Put as definition;
 ghost use Rattle.written.specs.Strip as stripping;
 ghost use Rattle.emit.specs.Puts.{Puts};
-ghost use Rattle.emit.specs.Ways.{rootIn, stepIn};
+ghost use Rattle.emit.specs.Ways.{rootIn, stepIn, putStepIn};
 use crate::base::byte;
 use crate::base::number;
+use crate::places::step_at;
 use crate::records::name;
 use crate::records::position;
 use format::records::NameIndex;
@@ -219,4 +223,19 @@ pub fn step_in(out: &mut [u8], at: usize, strip: bool, s: Step) -> usize
     } else {
         step(out, at, s)
     }
+}
+
+// A count and the steps from a place of their table on.
+pub fn step_list(out: &mut [u8], at: usize, strip: bool, t: &[u64], from: usize, n: usize) -> usize
+    requires { ⌜ (from + n) * 11 ≤ length (now t) ⌝ }
+    ensures { λ r. ⌜ Puts (definition.putList (putStepIn strip) (recordsOf 11 stepOf n (drop (from * 11) (now (t .entry))))) (now (out .entry)) at (now (out .exit)) r ⌝ }
+{
+    let end = from + n;
+    let mut place = number(out, at, n as u64);
+    let mut j = from;
+    while j < end {
+        place = step_in(out, place, strip, step_at(t, j));
+        j += 1;
+    }
+    place
 }

@@ -5,5 +5,7 @@ pub mod base;
 pub mod callable;
 pub mod chain;
 pub mod header;
+pub mod lists;
+mod places;
 pub mod records;
 pub mod switch;

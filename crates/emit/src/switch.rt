@@ -1,11 +1,16 @@
 // Switches: cases and ranges.
 ghost use mathlib.Core.List.{[], _∷_};
 ghost use Rattle.grammar.specs.Combinators.{if_then_else_};
+ghost use Prim.Native.Nat.{_+_, _*_, _≤_};
+ghost use lib.ListN.{length, drop};
+ghost use Rattle.rows.specs.Back.{recordsOf, caseOf, rangeOf};
 ghost use Rattle.written.specs.Put as definition;
 ghost use Rattle.emit.specs.Puts.{Puts};
 use crate::base::byte;
 use crate::base::number;
 use crate::base::signed;
+use crate::places::case_at;
+use crate::places::range_at;
 use format::records::Case;
 use format::records::Range;
 
@@ -33,4 +38,32 @@ pub fn range(out: &mut [u8], at: usize, g: Range) -> usize
     let to = signed(out, from, g.to);
     let told = inclusive(out, to, g.inclusive);
     number(out, told, g.target as u64)
+}
+
+pub fn case_list(out: &mut [u8], at: usize, t: &[u64], from: usize, n: usize) -> usize
+    requires { ⌜ (from + n) * 2 ≤ length (now t) ⌝ }
+    ensures { λ r. ⌜ Puts (definition.putList definition.putCase (recordsOf 2 caseOf n (drop (from * 2) (now (t .entry))))) (now (out .entry)) at (now (out .exit)) r ⌝ }
+{
+    let end = from + n;
+    let mut place = number(out, at, n as u64);
+    let mut j = from;
+    while j < end {
+        place = case(out, place, case_at(t, j));
+        j += 1;
+    }
+    place
+}
+
+pub fn range_list(out: &mut [u8], at: usize, t: &[u64], from: usize, n: usize) -> usize
+    requires { ⌜ (from + n) * 4 ≤ length (now t) ⌝ }
+    ensures { λ r. ⌜ Puts (definition.putList definition.putRange (recordsOf 4 rangeOf n (drop (from * 4) (now (t .entry))))) (now (out .entry)) at (now (out .exit)) r ⌝ }
+{
+    let end = from + n;
+    let mut place = number(out, at, n as u64);
+    let mut j = from;
+    while j < end {
+        place = range(out, place, range_at(t, j));
+        j += 1;
+    }
+    place
 }

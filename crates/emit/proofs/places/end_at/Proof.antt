@@ -1,0 +1,27 @@
+-- The words of the row, one by one.
+use Prim.Native.Nat.{_*_}
+use mathlib.Core.Path.{_∙_, ap}
+use Rattle.rows.specs.Back.{endOf}
+use Rattle.emit.proofs.Listing.{row-words}
+use native.Mathlib.Omega.{arith}
+use borrow.Author.Needs.{needs}
+use Rattle.emit.proofs.places.end_at.Statement.{statement}
+use Rattle.emit.proofs.places.end_at.Tie as tie
+
+mul-p : tie.Need-mul-p
+mul-p c = search needs
+
+mul-t4 : tie.Need-mul-t4
+mul-t4 c = search needs
+
+shared-slice-read-t6 : tie.Need-shared-slice-read-t6
+shared-slice-read-t6 c = search needs
+
+end-of-requires : tie.Need-end-of-requires
+end-of-requires c κs = search needs
+
+returns : tie.Need-returns
+returns c = c .end-of .ensures ∙ ap endOf (row-words 0 (c .before .before .before .args .k * 1) (c .before .before .before .args .t .now) (omega arith))
+
+pub end-at-spec : {M : Type 1} → statement M
+end-at-spec = tie.close (tie.spec mul-p mul-t4 shared-slice-read-t6 end-of-requires returns)

@@ -1,0 +1,64 @@
+-- The rows before j are put (`Listing`).
+use Prim.Native.Nat.{_+_, _*_, _-_}
+use mathlib.Core.Path.{_∙_}
+use lib.ListN.{drop}
+use Rattle.grammar.specs.Combinators.{putAll}
+use Rattle.written.specs.Put.{putCase}
+use Rattle.rows.specs.Back.{recordsOf, caseOf}
+use Rattle.emit.proofs.Listing.{Listing, listing-from, listing-row, listing-more, listed-from}
+use borrow.Author.Needs.{needs}
+use Rattle.emit.proofs.switch.case_list.Statement.{statement}
+use Rattle.emit.proofs.switch.case_list.Tie as tie
+
+abbrev Inv-loop : tie.InvT-loop
+Inv-loop out₀ at t from n end place₀ j₀ out place j = Listing putCase 2 caseOf t (putAll putCase (recordsOf 2 caseOf n (drop (from * 2) t))) out₀ place₀ j (from + n) out place
+
+abbrev μ-loop : tie.MeasureT-loop
+μ-loop out₀ at t from n end place₀ j₀ out place j = from + n - j
+
+add-end : tie.Need-add-end Inv-loop μ-loop
+add-end c = search needs
+
+number-requires : tie.Need-number-requires Inv-loop μ-loop
+number-requires c κs = search needs
+
+loop-holds : tie.Need-loop-holds Inv-loop μ-loop
+loop-holds c = listing-from (c .before .before .before .before .before .before .args .from) (c .before .before .before .before .before .before .args .n) (c .before .before .before .before .before .before .pre) (c .before .before .number .ensures)
+
+case-at-requires : tie.Need-case-at-requires Inv-loop μ-loop
+case-at-requires c κs = listing-row (c .before .before .loop .inv) (c .before .loop-test .taken)
+
+case-requires : tie.Need-case-requires Inv-loop μ-loop
+case-requires c κs = search needs
+
+add-j : tie.Need-add-j Inv-loop μ-loop
+add-j c = search needs
+
+loop-less : tie.Need-loop-less Inv-loop μ-loop
+loop-less c = search needs
+
+loop-again : tie.Need-loop-again Inv-loop μ-loop
+loop-again c = listing-more (c .before .before .before .before .before .before .loop .inv) (c .before .before .before .before .before .loop-test .taken) (rw (c .before .before .before .case-at .ensures) at (c .before .before .case .ensures))
+
+same-length : tie.Need-same-length Inv-loop μ-loop
+same-length c = c .before .loop .inv .going .same ∙ c .before .before .before .before .number .ensures .kept
+
+returns : tie.Need-returns Inv-loop μ-loop
+returns c = listed-from (c .before .before .before .before .before .before .before .before .args .from) (c .before .before .before .before .before .before .before .before .args .n) (c .before .before .before .before .number .ensures) (c .before .loop .inv) (c .loop-test .left)
+
+pub case-list-spec : {M : Type 1} → statement M
+case-list-spec =
+    tie.close
+    (tie.spec
+    Inv-loop
+    μ-loop
+    add-end
+    number-requires
+    loop-holds
+    case-at-requires
+    case-requires
+    add-j
+    loop-less
+    loop-again
+    same-length
+    returns)
