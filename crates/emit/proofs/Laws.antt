@@ -25,6 +25,9 @@ pub puts-stored : {bytes e exit : List ℕ} {at next : ℕ} → next ≡ min (at
 puts-stored {bytes} {e} {exit} {at} is all =
     record { next = is; kept = ap length all ∙ length-sets e at bytes; stored = λ _ _. all }
 
+pub puts-same : {a b e x : List ℕ} {at next : ℕ} → a ≡ b → Puts a e at x next → Puts b e at x next
+puts-same same p = rw (← same) p
+
 -- one thing behind another
 module _ {a b e m x : List ℕ} {at mid next : ℕ} where
   pub puts-then : Puts a e at m mid → Puts b m mid x next → Puts (a ++ b) e at x next

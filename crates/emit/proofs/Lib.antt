@@ -2,3 +2,6 @@
 pub mod Laws
 pub mod Texts
 pub mod Listing
+pub mod Sharing
+pub mod Stripping
+pub mod Switching

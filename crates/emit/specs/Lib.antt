@@ -2,3 +2,4 @@
 pub mod Puts
 pub mod Ways
 pub mod Headers
+pub mod Shares

@@ -6,7 +6,7 @@ use Rattle.tables.specs.Table.{With}
 use Rattle.format.specs.declared.records.Root.{Root}
 use Rattle.format.specs.declared.records.Step.{Step}
 use Rattle.format.specs.declared.records.Chain.{Chain}
-use Rattle.written.specs.Put.{putStep}
+use Rattle.written.specs.Put.{putStep, putChain}
 use Rattle.written.specs.Strip.{stripRoot, stripStep, stripChain}
 
 abbrev pub rootIn : Bool → Root → Root
@@ -19,6 +19,13 @@ stepIn true s = stripStep s
 
 abbrev pub putStepIn : Bool → Step → List ℕ
 putStepIn stripped s = putStep (stepIn stripped s)
+
+abbrev pub chainIn : Bool → With Chain Step → With Chain Step
+chainIn false c = c
+chainIn true c = stripChain c
+
+abbrev pub putChainIn : Bool → With Chain Step → List ℕ
+putChainIn stripped c = putChain (chainIn stripped c)
 
 abbrev pub chainsIn : Bool → List (With Chain Step) → List (With Chain Step)
 chainsIn false cs = cs

@@ -5,13 +5,16 @@ ghost use lib.ListN.{length, drop};
 ghost use Rattle.rows.specs.Back.{recordsOf, stepOf};
 ghost use Rattle.written.specs.Put as definition;
 ghost use Rattle.written.specs.Strip as stripping;
+ghost use Rattle.emit.specs.Shares.{SharesFit, chainFrom, chainsOf};
 ghost use Rattle.emit.specs.Puts.{Puts};
-ghost use Rattle.emit.specs.Ways.{rootIn, stepIn, putStepIn};
+ghost use Rattle.emit.specs.Ways.{rootIn, stepIn, putStepIn, putChainIn, chainsIn};
 use crate::base::byte;
 use crate::base::number;
+use crate::places::chain_at;
 use crate::places::step_at;
 use crate::records::name;
 use crate::records::position;
+use format::records::Chain;
 use format::records::NameIndex;
 use format::records::OptionalPosition;
 use format::records::Root;
@@ -235,6 +238,44 @@ pub fn step_list(out: &mut [u8], at: usize, strip: bool, t: &[u64], from: usize,
     let mut j = from;
     while j < end {
         place = step_in(out, place, strip, step_at(t, j));
+        j += 1;
+    }
+    place
+}
+
+// A chain with its steps, from a place of their table on.
+fn chain(out: &mut [u8], at: usize, strip: bool, c: Chain, steps: &[u64], from: usize) -> usize
+    requires { ⌜ (from + c .steps) * 11 ≤ length (now steps) ⌝ }
+    ensures { λ r. ⌜ Puts (putChainIn strip (chainFrom c (now (steps .entry)) from)) (now (out .entry)) at (now (out .exit)) r ⌝ }
+{
+    let start = c.root;
+    let last = c.tail;
+    let n = c.steps as usize;
+    let root = root_in(out, at, strip, start);
+    let operands = number(out, root, c.operands as u64);
+    let behind = step_list(out, operands, strip, steps, from, n);
+    tail(out, behind, last)
+}
+
+// The section, in the way asked. That the chains own all the steps, and no more, was tested before.
+pub fn chains(
+    out: &mut [u8],
+    at: usize,
+    strip: bool,
+    t: &[u64],
+    used: usize,
+    steps: &[u64],
+) -> usize
+    requires { ⌜ SharesFit 6 9 used (now t) 11 (now steps) ⌝ }
+    ensures { λ r. ⌜ Puts (definition.putList definition.putChain (chainsIn strip (chainsOf (now (t .entry)) used (now (steps .entry))))) (now (out .entry)) at (now (out .exit)) r ⌝ }
+{
+    let mut place = number(out, at, used as u64);
+    let mut from: usize = 0;
+    let mut j: usize = 0;
+    while j < used {
+        let c = chain_at(t, j);
+        place = chain(out, place, strip, c, steps, from);
+        from += c.steps as usize;
         j += 1;
     }
     place

@@ -5,14 +5,17 @@ ghost use Prim.Native.Nat.{_+_, _*_, _≤_};
 ghost use lib.ListN.{length, drop};
 ghost use Rattle.rows.specs.Back.{recordsOf, caseOf, rangeOf};
 ghost use Rattle.written.specs.Put as definition;
+ghost use Rattle.emit.specs.Shares.{SharesFit, switchFrom, switchesOf};
 ghost use Rattle.emit.specs.Puts.{Puts};
 use crate::base::byte;
 use crate::base::number;
 use crate::base::signed;
 use crate::places::case_at;
 use crate::places::range_at;
+use crate::places::switch_at;
 use format::records::Case;
 use format::records::Range;
+use format::records::Switch;
 
 pub fn case(out: &mut [u8], at: usize, c: Case) -> usize
     ensures { λ r. ⌜ Puts (definition.putCase c) (now (out .entry)) at (now (out .exit)) r ⌝ }
@@ -63,6 +66,51 @@ pub fn range_list(out: &mut [u8], at: usize, t: &[u64], from: usize, n: usize) -
     let mut j = from;
     while j < end {
         place = range(out, place, range_at(t, j));
+        j += 1;
+    }
+    place
+}
+
+// Cases, ranges, a default.
+fn switch(
+    out: &mut [u8],
+    at: usize,
+    w: Switch,
+    cases: &[u64],
+    from: usize,
+    ranges: &[u64],
+    behind: usize,
+) -> usize
+    requires { ⌜ (from + w .cases) * 2 ≤ length (now cases) ⌝ }
+    requires { ⌜ (behind + w .ranges) * 4 ≤ length (now ranges) ⌝ }
+    ensures { λ r. ⌜ Puts (definition.putSwitch (switchFrom w (now (cases .entry)) from (now (ranges .entry)) behind)) (now (out .entry)) at (now (out .exit)) r ⌝ }
+{
+    let listed = case_list(out, at, cases, from, w.cases as usize);
+    let ranged = range_list(out, listed, ranges, behind, w.ranges as usize);
+    number(out, ranged, w.default as u64)
+}
+
+pub fn switches(
+    out: &mut [u8],
+    at: usize,
+    t: &[u64],
+    used: usize,
+    cases: &[u64],
+    ranges: &[u64],
+) -> usize
+    requires { ⌜ SharesFit 0 3 used (now t) 2 (now cases) ⌝ }
+    requires { ⌜ SharesFit 1 3 used (now t) 4 (now ranges) ⌝ }
+    ensures { λ r. ⌜ Puts (definition.putList definition.putSwitch (switchesOf (now (t .entry)) used (now (cases .entry)) (now (ranges .entry)))) (now (out .entry)) at (now (out .exit)) r ⌝ }
+{
+    let mut place = number(out, at, used as u64);
+    let mut from: usize = 0;
+    let mut behind: usize = 0;
+    let mut j: usize = 0;
+    while j < used {
+        let w = switch_at(t, j);
+        place = switch(out, place, w, cases, from, ranges, behind);
+        from += w.cases as usize;
+        behind += w.ranges as usize;
         j += 1;
     }
     place
