@@ -4,15 +4,17 @@ ghost use mathlib.Core.Path.{_≡_};
 ghost use Prim.Native.Nat.{_*_, _≤_, _<_};
 ghost use lib.ListN.{length};
 ghost use Rattle.rows.specs.Back.{cut};
+ghost use Rattle.format.specs.Artifact.{levels};
 ghost use Rattle.model.specs.Lent.{every};
 ghost use Rattle.model.specs.Rules as definition;
 ghost use Rattle.rules.specs.Keeps as keeps;
 ghost use Rattle.rules.specs.From.{rowsFrom};
-ghost use Rattle.rules.specs.Walks.{Walk, entriesAt};
+ghost use Rattle.rules.specs.Walks.{Walk, entriesAt, reachedIs};
 use crate::row;
 use crate::texts;
 use crate::words::both;
 use crate::words::either;
+use format::tags::Limit;
 
 // Where a walk over some constants ends, and whether nothing is owed there.
 pub struct Walked {
@@ -131,4 +133,53 @@ pub fn keys(rule: u8, t: &[u64], used: usize, text: &[u8]) -> bool
         k += 1;
     }
     true
+}
+
+// Where some constants of at most so many levels end.
+pub enum Reached {
+    At(usize),
+    TooDeep,
+}
+
+// Behind the next n constants from a place on. It calls itself for the items of each, with one level less: however deep the rows
+// say that they are, it stops where no level is left.
+fn reach(t: &[u64], used: usize, levels: usize, from: usize, n: u64) -> Reached
+    requires { ⌜ used * 8 ≤ length (now t) ⌝ }
+    ensures { λ r. ⌜ reachedIs (now (t .entry)) used r ≡ definition.within levels n (rowsFrom 8 (now (t .entry)) used from) ⌝ }
+{
+    if n == 0 {
+        return Reached::At(from);
+    }
+    if levels == 0 {
+        return Reached::TooDeep;
+    }
+    let mut k = from;
+    let mut left = n;
+    while k < used {
+        if left == 0 {
+            return Reached::At(k);
+        }
+        let items = owns(row::of_eight(t, k * 8));
+        match reach(t, used, levels - 1, k + 1, items) {
+            Reached::At(next) => {
+                k = next;
+            }
+            Reached::TooDeep => {
+                return Reached::TooDeep;
+            }
+        }
+        left -= 1;
+    }
+    Reached::At(k)
+}
+
+// Top constants stand at depth 0, and the deepest at 64.
+pub fn shallow(t: &[u64], used: usize, tops: usize) -> bool
+    requires { ⌜ used * 8 ≤ length (now t) ⌝ }
+    ensures { λ r. ⌜ r ≡ definition.notTooDeep (definition.within levels tops (cut 8 used (now (t .entry)))) ⌝ }
+{
+    match reach(t, used, Limit::DEPTH + 1, 0, tops as u64) {
+        Reached::At(_) => true,
+        Reached::TooDeep => false,
+    }
 }

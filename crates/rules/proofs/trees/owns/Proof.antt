@@ -1,3 +1,4 @@
+-- The tag is one of the three that own items, or it is not.
 use mathlib.Core.Path.{sym, _∙_}
 use borrow.Author.Needs.{needs}
 use Rattle.rules.proofs.trees.owns.Statement.{statement}
