@@ -27,6 +27,28 @@ pub record Lent : Type 0 where
   pub parameters : List ℕ
   pub text : List ℕ
 
+-- of its parts, the tables in their order
+abbrev pub lent : Artifact → Bool → (ends constants tokens assigns chains steps switches cases ranges customs inputs functions parameters text : List ℕ) → Lent
+lent outside fit ends constants tokens assigns chains steps switches cases ranges customs inputs functions parameters text =
+    record {
+      outside = outside;
+      numbersFit = fit;
+      ends = ends;
+      constants = constants;
+      tokens = tokens;
+      assigns = assigns;
+      chains = chains;
+      steps = steps;
+      switches = switches;
+      cases = cases;
+      ranges = ranges;
+      customs = customs;
+      inputs = inputs;
+      functions = functions;
+      parameters = parameters;
+      text = text;
+    }
+
 -- the rows of each table that are used
 module _ (m : Lent) where
   abbrev pub endRows : List (List ℕ)

@@ -108,13 +108,13 @@ texts which test u constants tokens assigns =
     && (every (λ row. test (spanAt 0 row)) (cut 2 (u .tokens) tokens)
     && every (λ row. test (spanAt 0 row) && test (spanAt 3 row)) (cut 6 (u .assigns) assigns))
 
+abbrev pub outsideLies : List ℕ → (source blob code positions : Span) → Bool
+outsideLies text source blob code positions = (lies text source && lies text blob) && (lies text code && lies text positions)
+
 abbrev pub rule2 : Lent → Bool
 rule2 m =
-    lies (m .text) (m .outside .source)
-    && (lies (m .text) (m .outside .blob)
-    && (lies (m .text) (m .outside .code)
-    && (lies (m .text) (m .outside .positions)
-    && texts texted (lies (m .text)) (m .outside .used) (m .constants) (m .tokens) (m .assigns))))
+    outsideLies (m .text) (m .outside .source) (m .outside .blob) (m .outside .code) (m .outside .positions)
+    && texts texted (lies (m .text)) (m .outside .used) (m .constants) (m .tokens) (m .assigns)
 
 -- ── 3. strings are UTF-8 ──
 
@@ -130,9 +130,9 @@ rule3 m =
 
 abbrev pub rule4 : Lent → Bool
 rule4 m =
-    rising 0 (take (m .outside .used .names) (m .ends))
-    && (eqb (lastEnd 0 (take (m .outside .used .names) (m .ends))) (m .outside .blob .size)
-    && isText (m .text) (m .outside .blob))
+    (rising 0 (take (m .outside .used .names) (m .ends))
+    && eqb (lastEnd 0 (take (m .outside .used .names) (m .ends))) (m .outside .blob .size))
+    && isText (m .text) (m .outside .blob)
 
 -- ── 5. tags and access known, flags within the caller's mask ──
 

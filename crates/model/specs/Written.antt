@@ -28,14 +28,17 @@ bytesOf stripped m = put (inWay stripped (meaningOf m))
 abbrev pub rule11 : Bool → Lent → Bool
 rule11 stripped m = leb (length (bytesOf stripped m)) 1048576
 
--- the first of the tests that fails, by its number; 0 where none does
+-- the first of ten tests that fails, by its number; 0 where none does
 abbrev pub orElse : Bool → ℕ → ℕ → ℕ
 orElse holds rule rest = if holds then rest else rule
 
+unfoldable pub firstOfTen : (one two three four five six seven eight nine ten : Bool) → ℕ
+firstOfTen one two three four five six seven eight nine ten =
+    orElse one 1 (orElse two 2 (orElse three 3 (orElse four 4 (orElse five 5 (orElse six 6 (orElse seven 7 (orElse eight 8 (orElse nine 9 (orElse ten 10 0)))))))))
+
 unfoldable pub brokenOfTen : ℕ → Lent → ℕ
 brokenOfTen mask m =
-    orElse (rule1 m) 1 (orElse (rule2 m) 2 (orElse (rule3 m) 3 (orElse (rule4 m) 4 (orElse (rule5 mask m) 5
-    (orElse (rule6 m) 6 (orElse (rule7 m) 7 (orElse (rule8 m) 8 (orElse (rule9 m) 9 (orElse (rule10 m) 10 0)))))))))
+    firstOfTen (rule1 m) (rule2 m) (rule3 m) (rule4 m) (rule5 mask m) (rule6 m) (rule7 m) (rule8 m) (rule9 m) (rule10 m)
 
 abbrev pub elseEleven : ℕ → Bool → ℕ
 elseEleven zero holds = orElse holds 11 0

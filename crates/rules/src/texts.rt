@@ -6,6 +6,7 @@ ghost use Rattle.format.specs.File as file;
 use crate::records::sound_assign;
 use crate::words::both;
 use crate::words::either;
+use grammar::Span;
 
 // No sum wraps, whatever the words are.
 pub fn lies(text: &[u8], start: u64, size: u64) -> bool
@@ -16,6 +17,21 @@ pub fn lies(text: &[u8], start: u64, size: u64) -> bool
         return false;
     }
     size <= there - start
+}
+
+// The four spans outside the tables.
+pub fn outside_lies(text: &[u8], source: Span, blob: Span, code: Span, positions: Span) -> bool
+    ensures { λ r. ⌜ r ≡ definition.outsideLies (now (text .entry)) source blob code positions ⌝ }
+{
+    let names = both(
+        lies(text, source.start as u64, source.size as u64),
+        lies(text, blob.start as u64, blob.size as u64),
+    );
+    let rest = both(
+        lies(text, code.start as u64, code.size as u64),
+        lies(text, positions.start as u64, positions.size as u64),
+    );
+    both(names, rest)
 }
 
 pub fn span_keeps(rule: u8, text: &[u8], start: u64, size: u64) -> bool
