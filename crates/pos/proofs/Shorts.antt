@@ -19,7 +19,7 @@ use Rattle.pos.specs.declared.skim.Short.{Short}
 use Rattle.pos.specs.declared.skim.ShortSite.{ShortSite}
 use Rattle.pos.specs.Table.{field}
 use Rattle.pos.specs.Steps.{placed}
-use Rattle.pos.specs.Skim.{none, noSite, NumberAt, Whole, SiteAt, Entry, EntryAt, Passes, NextAt}
+use Rattle.pos.specs.Skim.{none, noSite, NumberAt, Whole, SiteAt, Entry}
 
 -- what two bytes or'ed together are below, both are
 pub low-left : (a b : ℕ) → a ≤ bitOr a b
@@ -67,14 +67,8 @@ module _ (s : List ℕ) (c : Cursor) where
 pub long-number : (s : List ℕ) (c : Cursor) → NumberAt s c none
 long-number s c = record { inside = omega arith; reads = λ h. absurd (omega arith) }
 
-pub long-entry : (s : List ℕ) (c : Cursor) → EntryAt s c none
-long-entry s c = record { inside = omega arith; reads = λ h. absurd (omega arith) }
-
 pub long-site : (s : List ℕ) (c : Cursor) → SiteAt s c noSite
 long-site s c = record { inside = omega arith; reads = λ h. absurd (omega arith) }
-
-pub long-next : (s : List ℕ) (c : Cursor) (least address limit : ℕ) → NextAt s c least address limit none
-long-next s c least address limit = record { inside = omega arith; reads = λ h. absurd (omega arith) }
 
 -- three numbers, one behind the other, are an entry
 pub three-is : (s : List ℕ) (c : Cursor) (step line column a b d : ℕ) →
@@ -156,39 +150,9 @@ module _ (s : List ℕ) (c : Cursor) where
 pub number-is : {s : List ℕ} {c : Cursor} {v : ℕ} (n : ℕ) → c .at + n ≤ length s → field s c ≡ got v (advanced c n) → NumberAt s c (record { value = v; size = n })
 number-is n h e = record { inside = omega arith; reads = λ _. e }
 
-pub entry-is : {s : List ℕ} {c : Cursor} {v : ℕ} (n : ℕ) → c .at + n ≤ length s → Entry s c v n → EntryAt s c (record { value = v; size = n })
-entry-is n h e = record { inside = omega arith; reads = λ _. e }
-
 pub site-is : {s : List ℕ} {c : Cursor} {step line column : ℕ} (n : ℕ) → c .at + n ≤ length s → Whole s c step line column n →
     SiteAt s c (record { step = step; line = line; column = column; size = n })
 site-is n h e = record { inside = omega arith; reads = λ _. e }
-
-pub three-found : {s : List ℕ} {c c₂ c₃ : Cursor} {step line column : Short} →
-    NumberAt s c step → NumberAt s c₂ line → NumberAt s c₃ column →
-    c₂ ≡ advanced c (step .size) → c₃ ≡ advanced c₂ (line .size) →
-    (step .size ≡ 0 → ⊥) → (line .size ≡ 0 → ⊥) → (column .size ≡ 0 → ⊥) →
-    SiteAt s c (record { step = step .value; line = line .value; column = column .value; size = step .size + line .size + column .size })
-three-found {s} {c} {c₂} {c₃} {step} {line} {column} n₁ n₂ n₃ is₂ is₃ p₁ p₂ p₃ =
-    let m₂ : NumberAt s (advanced c (step .size)) line = rw is₂ at n₂ in
-    let same : c₃ ≡ advanced (advanced c (step .size)) (line .size) = rw is₂ at is₃ in
-    let m₃ : NumberAt s (advanced (advanced c (step .size)) (line .size)) column = rw same at n₃ in
-    record {
-      inside = omega (arith, n₁ .inside, m₂ .inside, m₃ .inside);
-      reads = λ _. three-is s c (step .value) (line .value) (column .value) (step .size) (line .size) (column .size)
-          (n₁ .reads (omega arith)) (m₂ .reads (omega arith)) (m₃ .reads (omega arith));
-    }
-
-pub told-at : {s : List ℕ} {c : Cursor} {e : ShortSite} → SiteAt s c e → EntryAt s c (record { value = e .step; size = e .size })
-told-at g = record { inside = g .inside; reads = λ h. told (g .reads h) }
-
-pub next-is : {s : List ℕ} {c : Cursor} {least address limit : ℕ} {e : Short} → EntryAt s c e →
-    (e .size ≡ 0 → ⊥) → least ≤ e .value → address + e .value < limit →
-    NextAt s c least address limit (record { value = address + e .value; size = e .size })
-next-is g p enough below =
-    record {
-      inside = g .inside;
-      reads = λ h. record { step = _; entry = g .reads h; enough = enough; reaches = refl; below = below };
-    }
 
 pub placed-short : {s : List ℕ} {c c₂ : Cursor} {line column : Short} (to : ℕ) → NumberAt s c line → NumberAt s c₂ column → c₂ ≡ advanced c (line .size) →
     (line .size ≡ 0 → ⊥) → (column .size ≡ 0 → ⊥) →

@@ -7,7 +7,7 @@ use native.Mathlib.Nat.{zero-add}
 use native.Mathlib.Omega.{arith}
 use lib.ListN.{length}
 use lib.Dec.{ltb, leb, eqb}
-use borrow.Author.Tests.{lt-ltb, le-ltb, ltb-true, ltb-false}
+use borrow.Author.Tests.{lt-ltb, le-ltb, ltb-true, ltb-false, eq-eqb}
 use Rattle.refusal.specs.declared.Refusal.{Refusal}
 use Rattle.refusal.specs.declared.PositionsFault.{PositionsFault}
 use Rattle.grammar.specs.declared.Cursor.{Cursor}
@@ -20,12 +20,11 @@ use Rattle.pos.specs.declared.Site.{Site}
 use Rattle.pos.specs.declared.Checked.{Checked}
 use Rattle.pos.specs.declared.Resolved.{Resolved}
 use Rattle.pos.specs.declared.reading.Reached.{Reached}
-use Rattle.pos.specs.declared.skim.Walk.{Walk}
 use Rattle.pos.specs.Table.{inTable, field, Previous, none, earlier, reached, entries, table, whole, asChecked, checked, walked, siteFor, seek, orNothing, resolved}
 use Rattle.pos.specs.Steps.{reachOf, reachIs, placed, entryAt, endedAt, endsAs}
-use Rattle.pos.specs.declared.skim.Short.{Short}
 use Rattle.pos.specs.declared.skim.ShortSite.{ShortSite}
-use Rattle.pos.specs.Skim.{NumberAt, Whole, SiteAt, Entry, Passes, NextAt, Before, first, later, begins, Checking, sought, Skims}
+use Rattle.pos.specs.declared.skim.Walk.{Walk}
+use Rattle.pos.specs.Skim.{Whole, SiteAt, Entry, Before, first, later, walkAt, begins, SingleAt, CheckingAt, Checking, sought, Runs}
 
 -- a field fits 32 bits
 pub field-below : (s : List ℕ) (c : Cursor) (v : ℕ) (next : Cursor) → field s c ≡ got v next → v < 2 ^ 32
@@ -127,12 +126,6 @@ pub entry-whole : {s : List ℕ} {c : Cursor} {step line column size : ℕ} → 
 unfolding entryAt _>>=_
 entry-whole {step = step} w l address h reach = rw (w .first, le-ltb step l h, lt-ltb (address + step) (2 ^ 32) reach, w .rest (address + step))
 
--- an entry that passes
-entry-passes : {s : List ℕ} {c : Cursor} {least address limit to size : ℕ} (g : Passes s c least address limit to size) → limit ≤ 2 ^ 32 → (l : ℕ) → l ≤ least →
-    entryAt l address s c ≡ got (record { address = to; line = g .entry .line; column = g .entry .column }) (advanced c size)
-entry-passes {address = address} g le l h =
-    rw (g .reaches) (entry-whole (g .entry .whole) l address (omega (arith, g .enough)) (omega (arith, g .reaches, g .below)))
-
 -- ── a check ──
 
 -- the whole check from the count on
@@ -151,7 +144,7 @@ checked-is s = go (table s start)
     go (got sites next) = end (eqb (next .at) (length s)) sites next
     go (refused r) = refl
 
-pub checking-begins : (s : List ℕ) (count : ℕ) (next : Cursor) → field s start ≡ got count next → Checking s (begins next count)
+pub checking-begins : (s : List ℕ) (count : ℕ) (next : Cursor) → field s start ≡ got count next → CheckingAt s next count 0 0
 unfolding table _>>=_
 checking-begins s count next e = record { previous = none; before = first; rest = checked-is s ∙ rw e }
 
@@ -159,14 +152,14 @@ pub checked-refused : (s : List ℕ) (r : Refusal) → field s start ≡ refused
 unfolding table _>>=_
 checked-refused s r e = sym (checked-is s ∙ rw e)
 
-module _ {s : List ℕ} {c : Cursor} {left least address : ℕ} (g : Checking s (record { c = c; left = left; least = least; address = address })) where
+module _ {s : List ℕ} {c : Cursor} {left least address : ℕ} (g : CheckingAt s c left least address) where
   checking-entry : 0 < left → checked s ≡ onward s (left - 1) (entryAt least address s c)
   checking-entry h =
       let n : left ≡ suc (left - 1) = omega arith in
       g .rest ∙ ap (λ (k : ℕ). endsAs s (entries k (g .previous) s c)) n ∙ entries-more (g .before) (left - 1) s c
 
   pub checking-more : 0 < left → {site : Site} {next : Cursor} → entryAt least address s c ≡ got site next →
-      Checking s (record { c = next; left = left - 1; least = 1; address = site .address })
+      CheckingAt s next (left - 1) 1 (site .address)
   checking-more h {site} e = record { previous = earlier (site .address); before = later (site .address); rest = checking-entry h ∙ rw e }
 
   pub checking-refused : 0 < left → {r : Refusal} → entryAt least address s c ≡ refused r → Checked.Refused r ≡ checked s
@@ -180,7 +173,7 @@ module _ {s : List ℕ} {c : Cursor} {left least address : ℕ} (g : Checking s 
 
 -- ── resolving ──
 
-pub resolving-begins : (s : List ℕ) (asked count : ℕ) (next : Cursor) → field s start ≡ got count next → resolved s asked ≡ sought s asked (begins next count)
+pub resolving-begins : (s : List ℕ) (asked count : ℕ) (next : Cursor) → field s start ≡ got count next → resolved s asked ≡ sought s asked next count 0
 unfolding resolved _>>=_
 resolving-begins s asked count next e = rw e
 
@@ -188,11 +181,8 @@ pub resolved-refused : (s : List ℕ) (asked : ℕ) (r : Refusal) → field s st
 unfolding resolved _>>=_
 resolved-refused s asked r e = rw e
 
-module _ (s : List ℕ) (asked : ℕ) (c : Cursor) (left least address : ℕ) where
-  abbrev at-walk : Walk
-  at-walk = record { c = c; left = left; least = least; address = address }
-
-  pub seek-ended : left ≤ 0 → sought s asked at-walk ≡ Resolved.Nothing
+module _ (s : List ℕ) (asked : ℕ) (c : Cursor) (left address : ℕ) where
+  pub seek-ended : left ≤ 0 → sought s asked c left address ≡ Resolved.Nothing
   unfolding seek pure
   seek-ended h = let n : left ≡ 0 = omega arith in rw n
 
@@ -200,59 +190,108 @@ module _ (s : List ℕ) (asked : ℕ) (c : Cursor) (left least address : ℕ) wh
     left-is : left ≡ suc (left - 1)
     left-is = omega arith
 
-    pub seek-refused : (r : Refusal) → entryAt 0 address s c ≡ refused r → sought s asked at-walk ≡ Resolved.Nothing
+    pub seek-refused : (r : Refusal) → entryAt 0 address s c ≡ refused r → sought s asked c left address ≡ Resolved.Nothing
     unfolding seek _>>=_
     seek-refused r e = rw (left-is, walked-is address s c, e)
 
     module _ (site : Site) (next : Cursor) (e : entryAt 0 address s c ≡ got site next) where
-      pub seek-found : asked ≤ site .address → sought s asked at-walk ≡ siteFor asked site
+      pub seek-found : asked ≤ site .address → sought s asked c left address ≡ siteFor asked site
       unfolding seek pure _>>=_
       seek-found at = rw (left-is, walked-is address s c, e, le-ltb (site .address) asked at)
 
-      pub seek-more : (l : ℕ) → site .address < asked →
-          sought s asked at-walk ≡ sought s asked (record { c = next; left = left - 1; least = l; address = site .address })
+      pub seek-more : site .address < asked → sought s asked c left address ≡ sought s asked next (left - 1) (site .address)
       unfolding seek pure _>>=_
-      seek-more l at =
+      seek-more at =
           ap (λ (k : ℕ). orNothing (seek k asked address s c)) left-is ∙ rw (walked-is address s c, e, lt-ltb (site .address) asked at)
 
--- the entry at hand is short, and is the one asked
-pub seek-hit : (s : List ℕ) (asked : ℕ) (w : Walk) {e : ShortSite} → SiteAt s (w .c) e → 0 < w .left → 0 < e .size → w .address + e .step ≡ asked → asked < 2 ^ 32 →
-    sought s asked w ≡ siteFor asked (record { address = asked; line = e .line; column = e .column })
-seek-hit s asked w {e} g h p is fits =
-    seek-found s asked (w .c) (w .left) (w .least) (w .address) h _ _ (entry-whole (g .reads p) 0 (w .address) zero-le (omega arith)) (omega arith) ∙
-    ap (λ (to : ℕ). siteFor asked (record { address = to; line = e .line; column = e .column })) is
+-- a walk that has just begun is at address 0
+pub seek-begins : (s : List ℕ) (asked : ℕ) {w : Walk} {c : Cursor} {count : ℕ} → w ≡ begins c count asked →
+    sought s asked (w .c) (w .left) (asked - w .room) ≡ sought s asked c count 0
+seek-begins s asked is = let none-passed : asked - asked ≡ 0 = omega arith in rw (is, none-passed)
 
--- ── skimming: both at once ──
+-- a step fits 32 bits
+pub step-fits : {s : List ℕ} {c : Cursor} {e : ShortSite} → SiteAt s c e → 0 < e .size → e .step < 2 ^ 32
+step-fits {s} {c} g p = field-below s c _ _ (g .reads p .first)
 
-pub record Skimming (s : List ℕ) (limit : ℕ) (w : Walk) : Type 0 where
-  pub inside : w .c .at ≤ length s
-  pub sound : Checking s w
-  pub finds : resolved s limit ≡ sought s limit w
+-- the short entry at hand stops the walk, or is passed
+module _ {s : List ℕ} (asked : ℕ) {c : Cursor} {left : ℕ} (address : ℕ) {e : ShortSite} (g : SiteAt s c e) (h : 0 < left) (p : 0 < e .size)
+    (fits : address + e .step < 2 ^ 32) where
+  at-hand : entryAt 0 address s c ≡ got (record { address = address + e .step; line = e .line; column = e .column }) (advanced c (e .size))
+  at-hand = entry-whole (g .reads p) 0 address zero-le fits
 
-pub skims : {s : List ℕ} {limit : ℕ} {w : Walk} → Skimming s limit w → Skims s limit w
-skims g = record { inside = g .inside; sound = λ _. g .sound; finds = λ _. g .finds }
+  pub seek-hit : {to : ℕ} → address + e .step ≡ to → asked ≤ to → sought s asked c left address ≡ siteFor asked (record { address = to; line = e .line; column = e .column })
+  seek-hit is at =
+      seek-found s asked c left address h _ _ at-hand (omega arith) ∙
+      ap (λ (to : ℕ). siteFor asked (record { address = to; line = e .line; column = e .column })) is
 
--- the count is not short: nothing is said
-pub skims-none : (s : List ℕ) (limit count : ℕ) → Skims s limit (begins start count)
-skims-none s limit count = record { inside = zero-le; sound = λ h. absurd (omega arith); finds = λ h. absurd (omega arith) }
+  pub seek-missed : left ≡ 1 → address + e .step < asked → sought s asked c left address ≡ Resolved.Nothing
+  seek-missed one at = seek-more s asked c left address h _ _ at-hand at ∙ seek-ended s asked _ _ _ (omega arith)
 
-pub skimming-begins : {s : List ℕ} {r : Short} (limit : ℕ) → NumberAt s start r → (r .size ≡ 0 → ⊥) →
-    Skimming s limit (begins (advanced start (r .size)) (r .value))
-skimming-begins {s} {r} limit n p =
-    let e = n .reads (omega (arith, p)) in
+-- ── running: both at once ──
+
+pub runs-begins : (s : List ℕ) (from count over within : ℕ) → Runs s from count over within (walkAt from count over within)
+runs-begins s from count over within =
     record {
-      inside = omega (arith, n .inside, p);
-      sound = checking-begins s (r .value) _ e;
-      finds = resolving-begins s limit (r .value) _ e;
+      fewer = omega arith;
+      lower = omega arith;
+      room = λ h. h;
+      sound = λ address _ g. rw (same address) g;
+      finds = λ asked address _ _. ap (sought s asked (record { at = from }) count) (sym (same address));
     }
+  where
+    same : (address : ℕ) → address + (within - within) ≡ address
+    same address = omega arith
 
-module _ {s : List ℕ} {limit : ℕ} {c : Cursor} {left least address : ℕ} (g : Skimming s limit (record { c = c; left = left; least = least; address = address })) where
-  pub skimming-more : limit ≤ 2 ^ 32 → 0 < left → {r : Short} → NextAt s c least address limit r → (r .size ≡ 0 → ⊥) →
-      Skimming s limit (record { c = advanced c (r .size); left = left - 1; least = 1; address = r .value })
-  skimming-more le h {r} n p =
-      let q = n .reads (omega (arith, p)) in
-      record {
-        inside = omega (arith, n .inside, p);
-        sound = checking-more (g .sound) h (entry-passes q le least (omega arith));
-        finds = g .finds ∙ seek-more s limit c left least address h _ _ (entry-passes q le 0 zero-le) 1 (q .below);
-      }
+-- an entry more, whose step is at least the least and below the room
+runs-more : {s : List ℕ} {from count over within at left least room step size : ℕ} →
+    Runs s from count over within (walkAt at left least room) → 0 < left → Entry s (record { at = at }) step size → least ≤ step → step < room →
+    Runs s from count over within (walkAt (at + size) (left - 1) 1 (room - step))
+runs-more {s} {from} {count} {over} {within} {at} {left} {least} {room} {step} {size} g h entry enough below =
+    record {
+      fewer = omega (arith, g .fewer);
+      lower = omega (arith, g .lower);
+      room = λ _. omega arith;
+      sound = λ address fits k.
+          rw (same address) at (checking-more (g .sound address fits k) h (entry-whole (entry .whole) least (address + (within - room)) enough (omega (arith, g .lower))));
+      finds = λ asked address is fits.
+          g .finds asked address is fits ∙
+          seek-more s asked (record { at = at }) left (address + (within - room)) h _ _ (entry-whole (entry .whole) 0 (address + (within - room)) zero-le (omega (arith, g .lower))) (omega (arith, g .lower)) ∙
+          ap (sought s asked (record { at = at + size }) (left - 1)) (same address);
+    }
+  where
+    same : (address : ℕ) → address + (within - room) + step ≡ address + (within - (room - step))
+    same address = omega (arith, g .lower)
+
+-- what the loop knows: it stands inside
+pub record Running (s : List ℕ) (from count over within at left least room : ℕ) : Type 0 where
+  pub runs : Runs s from count over within (walkAt at left least room)
+  pub inside : at ≤ length s
+
+-- an entry, and the place behind it
+pub record Moves (s : List ℕ) (at step to : ℕ) : Type 0 where
+  pub size : ℕ
+  pub entry : Entry s (record { at = at }) step size
+  pub is : to ≡ at + size
+  pub inside : to ≤ length s
+
+pub running-more : {s : List ℕ} {from count over within at left least room step to : ℕ} →
+    Running s from count over within at left least room → 0 < left → Moves s at step to → least ≤ step → step < room →
+    Running s from count over within to (left - 1) 1 (room - step)
+running-more g h m enough below = record { runs = rw (m .is) (runs-more (g .runs) h (m .entry) enough below); inside = m .inside }
+
+-- a check goes on where a walk below 2 ^ 32 has run
+pub checking-runs : {s : List ℕ} {from left least address : ℕ} {w : Walk} → CheckingAt s (record { at = from }) left least address → address < 2 ^ 32 →
+    Runs s from left least (2 ^ 32 - address) w → Checking s w
+checking-runs {address = address} {w} g fits r =
+    let same : address + (2 ^ 32 - address - w .room) ≡ 2 ^ 32 - w .room = omega (arith, r .lower) in
+    record { room = r .room (omega arith); within = omega (arith, r .lower); at = rw same at (r .sound address (omega arith) g) }
+
+-- from a count of a single byte on
+pub single-runs : {s : List ℕ} {n : ℕ} {w : Walk} → SingleAt s n → (n ≡ 0 → ⊥) → Runs s 1 n 0 (2 ^ 32) w → Checking s w
+single-runs {s} {n} g p r = checking-runs (checking-begins s n _ (g (omega (arith, p)) .reads (omega arith))) (omega arith) r
+
+-- no entry is left, and no byte
+pub checking-sound : {s : List ℕ} {w : Walk} → Checking s w → w .left ≡ 0 → w .c .at ≡ length s → Checked.Sound ≡ checked s
+checking-sound {s} {w} g none-left all-read =
+    let ends : Checked.Sound ≡ endedAt (length s) (w .c .at) = rw (eq-eqb (w .c .at) (length s) all-read) in
+    ends ∙ checking-ended (g .at) (omega arith)

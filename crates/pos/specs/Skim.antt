@@ -1,16 +1,16 @@
 -- What skimming says: short numbers and entries as the definitions read them, and what is still to be read behind them.
-use Prim.Native.Nat.{ℕ, _+_, _-_, _<_, _≤_}
+use Prim.Native.Nat.{ℕ, _+_, _-_, _^_, _<_, _≤_}
 use mathlib.Core.Path.{_≡_}
 use mathlib.Core.List.{List}
 use lib.ListN.{length}
 use Rattle.grammar.specs.declared.Cursor.{Cursor}
-use Rattle.grammar.specs.Outcome.{advanced, got}
+use Rattle.grammar.specs.Outcome.{start, advanced, got}
 use Rattle.pos.specs.declared.Site.{Site}
 use Rattle.pos.specs.declared.Resolved.{Resolved}
 use Rattle.pos.specs.declared.skim.Short.{Short}
 use Rattle.pos.specs.declared.skim.ShortSite.{ShortSite}
 use Rattle.pos.specs.declared.skim.Walk.{Walk}
-use Rattle.pos.specs.Table.{Previous, none as nothing, earlier, field, entries, checked, seek, resolved, orNothing}
+use Rattle.pos.specs.Table.{Previous, none as nothing, earlier, field, entries, checked, seek, orNothing}
 use Rattle.pos.specs.Steps.{placed, endsAs}
 
 -- not short
@@ -21,6 +21,10 @@ none = record { value = 0; size = 0 }
 pub record NumberAt (s : List ℕ) (c : Cursor) (r : Short) : Type 0 where
   pub inside : r .size ≤ length s - c .at
   pub reads : 0 < r .size → field s c ≡ got (r .value) (advanced c (r .size))
+
+-- a count of a single byte
+abbrev pub SingleAt : List ℕ → ℕ → Type 0
+SingleAt s n = 0 < n → NumberAt s start (record { value = n; size = 1 })
 
 -- an entry of so many bytes, with its numbers
 pub record Whole (s : List ℕ) (c : Cursor) (step line column size : ℕ) : Type 0 where
@@ -41,43 +45,44 @@ pub record Entry (s : List ℕ) (c : Cursor) (step size : ℕ) : Type 0 where
   pub column : ℕ
   pub whole : Whole s c step line column size
 
-pub record EntryAt (s : List ℕ) (c : Cursor) (r : Short) : Type 0 where
-  pub inside : r .size ≤ length s - c .at
-  pub reads : 0 < r .size → Entry s c (r .value) (r .size)
-
--- an entry that passes: its step is at least the least, and the address that it reaches is below the limit
-pub record Passes (s : List ℕ) (c : Cursor) (least address limit to size : ℕ) : Type 0 where
-  pub step : ℕ
-  pub entry : Entry s c step size
-  pub enough : least ≤ step
-  pub reaches : to ≡ address + step
-  pub below : to < limit
-
-pub record NextAt (s : List ℕ) (c : Cursor) (least address limit : ℕ) (r : Short) : Type 0 where
-  pub inside : r .size ≤ length s - c .at
-  pub reads : 0 < r .size → Passes s c least address limit (r .value) (r .size)
-
 -- the least step behind the entry before: none for the first, whose address counts from 0
 pub data Before : Previous → ℕ → ℕ → Type 0 where
   first : Before nothing 0 0
   later : (address : ℕ) → Before (earlier address) 1 address
 
--- before the first entry
-abbrev pub begins : Cursor → ℕ → Walk
-begins c count = record { c = c; left = count; least = 0; address = 0 }
+-- a walk at a place, and one before the first entry
+abbrev pub walkAt : ℕ → ℕ → ℕ → ℕ → Walk
+walkAt at left least room = record { c = record { at = at }; left = left; least = least; room = room }
 
--- what a check still has to read
-pub record Checking (s : List ℕ) (w : Walk) : Type 0 where
+abbrev pub begins : Cursor → ℕ → ℕ → Walk
+begins c count limit = record { c = c; left = count; least = 0; room = limit }
+
+-- what a check still has to read, behind an address
+pub record CheckingAt (s : List ℕ) (c : Cursor) (left least address : ℕ) : Type 0 where
   pub previous : Previous
-  pub before : Before previous (w .least) (w .address)
-  pub rest : checked s ≡ endsAs s (entries (w .left) previous s (w .c))
+  pub before : Before previous least address
+  pub rest : checked s ≡ endsAs s (entries left previous s c)
 
--- what resolving still has to read
-abbrev pub sought : List ℕ → ℕ → Walk → Resolved
-sought s asked w = orNothing (seek (w .left) asked (w .address) s (w .c))
+-- the same of a walk whose limit is 2 ^ 32
+pub record Checking (s : List ℕ) (w : Walk) : Type 0 where
+  pub room : 0 < w .room
+  pub within : w .room ≤ 2 ^ 32
+  pub at : CheckingAt s (w .c) (w .left) (w .least) (2 ^ 32 - w .room)
 
--- a walk that has begun leaves both as they are
-pub record Skims (s : List ℕ) (limit : ℕ) (w : Walk) : Type 0 where
-  pub inside : w .c .at ≤ length s
-  pub sound : 0 < w .c .at → Checking s w
-  pub finds : 0 < w .c .at → resolved s limit ≡ sought s limit w
+-- the same where the count was short, as the place says
+abbrev pub CheckingOn : List ℕ → Walk → Type 0
+CheckingOn s w = 0 < w .c .at → Checking s w
+
+-- what resolving still has to read, behind an address
+abbrev pub sought : List ℕ → ℕ → Cursor → ℕ → ℕ → Resolved
+sought s asked c left address = orNothing (seek left asked address s c)
+
+-- a walk that runs leaves both as they are: the address rises by what the room falls
+pub record Runs (s : List ℕ) (from count over within : ℕ) (w : Walk) : Type 0 where
+  pub fewer : w .left ≤ count
+  pub lower : w .room ≤ within
+  pub room : 0 < within → 0 < w .room
+  pub sound : (address : ℕ) → address + within ≤ 2 ^ 32 → CheckingAt s (record { at = from }) count over address →
+      CheckingAt s (w .c) (w .left) (w .least) (address + (within - w .room))
+  pub finds : (asked address : ℕ) → address + within ≡ asked → asked ≤ 2 ^ 32 →
+      sought s asked (record { at = from }) count address ≡ sought s asked (w .c) (w .left) (address + (within - w .room))

@@ -1,10 +1,11 @@
 // Position tables: from an instruction's address back to a line and a column (pos/mod.rs).
 ghost use mathlib.Core.Path.{_≡_};
+ghost use Prim.Native.Nat.{_-_, _≤_};
 ghost use lib.ListN.{length};
 ghost use Rattle.pos.specs.Encode.{sitesOf, encoded, encodedBytes};
 ghost use Rattle.pos.specs.Table.{counted, checked, resolved, siteFor};
 ghost use Rattle.pos.specs.Steps.{endedAt};
-ghost use Rattle.pos.specs.Skim.{Checking, sought};
+ghost use Rattle.pos.specs.Skim.{Checking, CheckingOn, sought};
 use grammar::Cursor;
 use reading::ReadSite;
 use refusal::PositionsFault;
@@ -50,24 +51,62 @@ pub enum Encoded {
 pub fn resolve(table: &[u8], address: u32) -> Resolved
     ensures { λ r. ⌜ r ≡ resolved (now (table .entry)) address ⌝ }
 {
-    let w = skim::skim(table, address as u64);
-    if 0 < w.c.at {
-        return seek(table, address, w);
+    let n = skim::number(table, Cursor::new());
+    if n.size == 0 {
+        return resolve_long(table, address);
     }
+    resolve_from(table, address, Cursor::new().advance(n.size), n.value)
+}
+
+// The same, where the count is not short.
+fn resolve_long(table: &[u8], asked: u32) -> Resolved
+    ensures { λ r. ⌜ r ≡ resolved (now (table .entry)) asked ⌝ }
+{
     match reading::field(table, Cursor::new()) {
-        ReadIndex::Got { value, next } => seek(table, address, skim::begun(next, value)),
+        ReadIndex::Got { value, next } => seek(
+            table,
+            asked,
+            skim::begun(next, value, asked as u64),
+        ),
         ReadIndex::Refused(_) => Resolved::Nothing,
     }
 }
 
-// The walk stops at the first entry whose address equals or passes the one asked.
+// The walk stops at the first entry whose address equals or passes the one asked. The very first is tried by itself, so
+// that a call for it, or in a table of one, stays short.
+fn resolve_from(table: &[u8], asked: u32, c: Cursor, left: u32) -> Resolved
+    ensures { λ r. ⌜ r ≡ sought (now (table .entry)) asked c left 0 ⌝ }
+{
+    if 0 < left {
+        let e = skim::site(table, c);
+        if 0 < e.size {
+            if asked <= e.step {
+                return site_for(
+                    asked,
+                    Site {
+                        address: e.step,
+                        line: e.line,
+                        column: e.column,
+                    },
+                );
+            }
+            if left == 1 {
+                return Resolved::Nothing;
+            }
+        }
+    }
+    seek(table, asked, skim::run(table, c.at, left, 0, asked as u64))
+}
+
+// The entry at hand is the one asked, or the walk goes on.
 fn seek(table: &[u8], asked: u32, from: Walk) -> Resolved
-    ensures { λ r. ⌜ r ≡ sought (now (table .entry)) asked from ⌝ }
+    requires { ⌜ from .room ≤ asked ⌝ }
+    ensures { λ r. ⌜ r ≡ sought (now (table .entry)) asked (from .c) (from .left) (asked - from .room) ⌝ }
 {
     if 0 < from.left {
         let e = skim::site(table, from.c);
         if 0 < e.size {
-            if from.address as u64 + e.step as u64 == asked as u64 {
+            if e.step as u64 == from.room {
                 return site_for(
                     asked,
                     Site {
@@ -84,11 +123,12 @@ fn seek(table: &[u8], asked: u32, from: Walk) -> Resolved
 
 // The same, an entry at a time.
 fn seek_on(table: &[u8], asked: u32, from: Walk) -> Resolved
-    ensures { λ r. ⌜ r ≡ sought (now (table .entry)) asked from ⌝ }
+    requires { ⌜ from .room ≤ asked ⌝ }
+    ensures { λ r. ⌜ r ≡ sought (now (table .entry)) asked (from .c) (from .left) (asked - from .room) ⌝ }
 {
     let mut c = from.c;
     let mut left = from.left;
-    let mut address = from.address;
+    let mut address = asked - from.room as u32;
     while 0 < left {
         match reading::entry(table, c, 0, address) {
             ReadSite::Got { site, next } => {
@@ -136,15 +176,32 @@ pub fn count(table: &[u8]) -> Counted
 pub fn check(table: &[u8]) -> Checked
     ensures { λ r. ⌜ r ≡ checked (now (table .entry)) ⌝ }
 {
-    let w = skim::skim(table, 0x1_0000_0000);
-    if 0 < w.c.at {
-        if 0 < w.left {
-            return entries(table, w);
+    let n = skim::single(table);
+    if n == 0 {
+        return check_on(table, skim::begun(Cursor::new(), 0, 0));
+    }
+    let w = skim::run(table, 1, n, 0, 0x1_0000_0000);
+    if w.left == 0 {
+        if w.c.at == table.len() {
+            return Checked::Sound;
         }
-        return ended(table.len(), w.c);
+    }
+    check_on(table, w)
+}
+
+// The rest of a check, which most tables do not need. It stands apart so that `check` is small enough to be inlined.
+fn check_on(table: &[u8], from: Walk) -> Checked
+    requires { ⌜ CheckingOn (now table) from ⌝ }
+    ensures { λ r. ⌜ r ≡ checked (now (table .entry)) ⌝ }
+{
+    if 0 < from.c.at {
+        return entries(table, from);
     }
     match reading::field(table, Cursor::new()) {
-        ReadIndex::Got { value, next } => entries(table, skim::begun(next, value)),
+        ReadIndex::Got { value, next } => entries(
+            table,
+            skim::run(table, next.at, value, 0, 0x1_0000_0000),
+        ),
         ReadIndex::Refused(r) => Checked::Refused(r),
     }
 }
@@ -154,24 +211,24 @@ fn entries(table: &[u8], from: Walk) -> Checked
     requires { ⌜ Checking (now table) from ⌝ }
     ensures { λ r. ⌜ r ≡ checked (now (table .entry)) ⌝ }
 {
-    let mut c = from.c;
-    let mut left = from.left;
-    let mut least = from.least;
-    let mut address = from.address;
-    while 0 < left {
-        match reading::entry(table, c, least, address) {
+    let mut w = from;
+    while 0 < w.left {
+        match reading::entry(table, w.c, w.least, (0x1_0000_0000 - w.room) as u32) {
             ReadSite::Got { site, next } => {
-                c = next;
-                left -= 1;
-                least = 1;
-                address = site.address;
+                w = skim::run(
+                    table,
+                    next.at,
+                    w.left - 1,
+                    1,
+                    0x1_0000_0000 - site.address as u64,
+                );
             }
             ReadSite::Refused(r) => {
                 return Checked::Refused(r);
             }
         }
     }
-    ended(table.len(), c)
+    ended(table.len(), w.c)
 }
 
 // Bytes behind the last entry: this is not the table that it claims to be.

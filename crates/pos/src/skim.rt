@@ -1,11 +1,10 @@
-// Most numbers of a table take at most three bytes, and most entries three or four. They are passed here, with no
+// Most numbers of a table take at most three bytes, and most entries three to five. They are passed here, with no
 // refusal at hand: what is not short is left to the readers of reading.rt.
 ghost use mathlib.Core.Path.{_≡_};
-ghost use Prim.Native.Nat.{_^_, _≤_};
-ghost use Rattle.pos.specs.Skim.{none, noSite, begins, NumberAt, SiteAt, EntryAt, NextAt, Skims};
+ghost use Rattle.pos.specs.Skim.{none, noSite, begins, walkAt, NumberAt, SingleAt, SiteAt, Runs};
 use grammar::Cursor;
 
-// A number, or the step of an entry, and how many bytes it takes; 0 bytes say that it is not short.
+// A number, and how many bytes it takes; 0 bytes say that it is not short.
 pub struct Short {
     pub value: u32,
     pub size: usize,
@@ -19,24 +18,24 @@ pub struct ShortSite {
     pub size: usize,
 }
 
-// Where a walk through a table stands: the place, the entries left, the least step that may follow, and the last
-// address. A place of 0 says that the count was not short.
+// Where a walk through a table stands: the place, the entries left, the least step that may follow, and what the address
+// is below the walk's limit. A place of 0 says that the count was not short.
 pub struct Walk {
     pub c: Cursor,
     pub left: u32,
     pub least: u32,
-    pub address: u32,
+    pub room: u64,
 }
 
 // A walk from the first entry on.
-pub fn begun(c: Cursor, count: u32) -> Walk
-    ensures { λ w. ⌜ w ≡ begins c count ⌝ }
+pub fn begun(c: Cursor, count: u32, limit: u64) -> Walk
+    ensures { λ w. ⌜ w ≡ begins c count limit ⌝ }
 {
     Walk {
         c,
         left: count,
         least: 0,
-        address: 0,
+        room: limit,
     }
 }
 
@@ -91,33 +90,7 @@ pub fn number(table: &[u8], c: Cursor) -> Short
     long()
 }
 
-// An entry of three short numbers.
-fn three(table: &[u8], c: Cursor) -> ShortSite
-    ensures { λ r. ⌜ SiteAt (now (table .entry)) c r ⌝ }
-{
-    let step = number(table, c);
-    if step.size == 0 {
-        return no_site();
-    }
-    let second = c.advance(step.size);
-    let line = number(table, second);
-    if line.size == 0 {
-        return no_site();
-    }
-    let third = second.advance(line.size);
-    let column = number(table, third);
-    if column.size == 0 {
-        return no_site();
-    }
-    ShortSite {
-        step: step.value,
-        line: line.value,
-        column: column.value,
-        size: step.size + line.size + column.size,
-    }
-}
-
-// An entry of single bytes by one test of the bytes left, or else a number at a time.
+// An entry of three single bytes, by one test of the bytes left.
 pub fn site(table: &[u8], c: Cursor) -> ShortSite
     ensures { λ r. ⌜ SiteAt (now (table .entry)) c r ⌝ }
 {
@@ -139,7 +112,7 @@ pub fn site(table: &[u8], c: Cursor) -> ShortSite
             };
         }
     }
-    three(table, c)
+    no_site()
 }
 
 fn no_site() -> ShortSite
@@ -153,120 +126,79 @@ fn no_site() -> ShortSite
     }
 }
 
-// The step and the size of a short entry. One test of the bytes left does for an entry of single bytes, or with a line
-// of two.
-fn short_entry(table: &[u8], c: Cursor) -> Short
-    ensures { λ r. ⌜ EntryAt (now (table .entry)) c r ⌝ }
+// The count where it is a single byte; 0 says that it is none, or no entries.
+pub fn single(table: &[u8]) -> u32
+    ensures { λ n. ⌜ SingleAt (now (table .entry)) n ⌝ }
 {
-    let at = c.at;
-    if table.len() <= at {
-        return long();
+    if table.len() == 0 {
+        return 0;
     }
-    let left = table.len() - at;
-    if left <= 2 {
-        return long();
+    let count = table[0];
+    if count < 128 {
+        return wide(count);
     }
-    let step = table[at];
-    if step | table[at + 1] | table[at + 2] < 128 {
-        return Short {
-            value: wide(step),
-            size: 3,
-        };
-    }
-    if left <= 3 {
-        return long();
-    }
-    if step | table[at + 2] | table[at + 3] < 128 {
-        return Short {
-            value: wide(step),
-            size: 4,
-        };
-    }
-    wider_entry(table, c)
+    0
 }
 
-// The same where the line has three bytes, or else a number at a time.
-fn wider_entry(table: &[u8], c: Cursor) -> Short
-    ensures { λ r. ⌜ EntryAt (now (table .entry)) c r ⌝ }
+fn standing(at: usize, left: u32, least: u32, room: u64) -> Walk
+    ensures { λ w. ⌜ w ≡ walkAt at left least room ⌝ }
 {
-    let at = c.at;
-    if table.len() <= at {
-        return long();
-    }
-    let left = table.len() - at;
-    if 4 < left {
-        let step = table[at];
-        if step | table[at + 3] | table[at + 4] < 128 {
-            if 128 <= table[at + 1] & table[at + 2] {
-                return Short {
-                    value: wide(step),
-                    size: 5,
-                };
-            }
-        }
-    }
-    let e = three(table, c);
-    Short {
-        value: e.step,
-        size: e.size,
-    }
-}
-
-// The address that a short entry reaches, where its step is not below the least that passes and the address is below
-// the limit.
-fn next(table: &[u8], c: Cursor, least: u32, address: u32, limit: u64) -> Short
-    requires { ⌜ limit ≤ 2 ^ 32 ⌝ }
-    ensures { λ r. ⌜ NextAt (now (table .entry)) c least address limit r ⌝ }
-{
-    let e = short_entry(table, c);
-    if e.size == 0 {
-        return long();
-    }
-    if e.value < least {
-        return long();
-    }
-    let reached = address as u64 + e.value as u64;
-    if limit <= reached {
-        return long();
-    }
-    Short {
-        value: reached as u32,
-        size: e.size,
-    }
-}
-
-// The front of a table, as far as its entries are short, pass and stay below the limit.
-pub fn skim(table: &[u8], limit: u64) -> Walk
-    requires { ⌜ limit ≤ 2 ^ 32 ⌝ }
-    ensures { λ w. ⌜ Skims (now (table .entry)) limit w ⌝ }
-{
-    let count = number(table, Cursor::new());
-    if count.size == 0 {
-        return begun(Cursor::new(), 0);
-    }
-    let mut c = Cursor::new().advance(count.size);
-    let mut left = count.value;
-    let mut least: u32 = 0;
-    let mut address: u32 = 0;
-    while 0 < left {
-        let e = next(table, c, least, address, limit);
-        if e.size == 0 {
-            return Walk {
-                c,
-                left,
-                least,
-                address,
-            };
-        }
-        c = c.advance(e.size);
-        left -= 1;
-        least = 1;
-        address = e.value;
-    }
     Walk {
-        c,
+        c: Cursor { at },
         left,
         least,
-        address,
+        room,
     }
+}
+
+// The walk on, as far as steps and columns are single bytes, lines take at most three, and the steps pass. The bytes are
+// read right here: with a function between, the slice would come through memory.
+pub fn run(table: &[u8], from: usize, count: u32, over: u32, within: u64) -> Walk
+    ensures { λ w. ⌜ Runs (now (table .entry)) from count over within w ⌝ }
+{
+    let mut at = from;
+    let mut left = count;
+    let mut least = over;
+    let mut room = within;
+    if table.len() < at {
+        return standing(at, left, least, room);
+    }
+    while 0 < left {
+        let rest = table.len() - at;
+        if rest <= 2 {
+            break;
+        }
+        let step = table[at];
+        if wide(step) < least {
+            break;
+        }
+        if room <= step as u64 {
+            break;
+        }
+        if step | table[at + 1] | table[at + 2] < 128 {
+            at += 3;
+        } else {
+            if rest <= 3 {
+                break;
+            }
+            if step | table[at + 2] | table[at + 3] < 128 {
+                at += 4;
+            } else {
+                if rest <= 4 {
+                    break;
+                }
+                if 128 <= step | table[at + 3] | table[at + 4] {
+                    break;
+                }
+                if table[at + 1] & table[at + 2] < 128 {
+                    break;
+                }
+                at += 5;
+            }
+        }
+        left -= 1;
+        least = 1;
+        room -= step as u64;
+    }
+    standing(at, left, least, room)
 }

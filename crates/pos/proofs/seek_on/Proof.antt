@@ -9,10 +9,16 @@ use Rattle.pos.proofs.seek_on.Statement.{statement}
 use Rattle.pos.proofs.seek_on.Tie as tie
 
 abbrev Inv-loop : tie.InvT-loop
-Inv-loop table asked c₀ left₀ address₀ c left address = sought table asked (record { c = c₀; left = left₀; least = 0; address = address₀ }) ≡ sought table asked (record { c = c; left = left; least = 0; address = address })
+Inv-loop table asked c₀ left₀ address₀ c left address = sought table asked c₀ left₀ address₀ ≡ sought table asked c left address
 
 abbrev μ-loop : tie.MeasureT-loop
 μ-loop table asked c₀ left₀ address₀ c left address = left
+
+cast-address : tie.Need-cast-address Inv-loop μ-loop
+cast-address c = omega (arith, c .before .before .before .pre, c .before .before .before .fits .asked .fits)
+
+sub-address : tie.Need-sub-address Inv-loop μ-loop
+sub-address c = c .before .before .before .pre
 
 loop-holds : tie.Need-loop-holds Inv-loop μ-loop
 loop-holds c = refl
@@ -27,7 +33,7 @@ site-for-requires : tie.Need-site-for-requires Inv-loop μ-loop
 site-for-requires c κs = search needs
 
 returns : tie.Need-returns Inv-loop μ-loop
-returns c = rw (c .site-for .ensures) (sym (c .before .before .before .before .before .before .before .before .loop .inv ∙ seek-found _ _ _ _ 0 _ (c .before .before .before .before .before .before .before .loop-test .taken) _ _ (c .before .before .before .before .before .before .entry .ensures ∙ ap siteIs (c .before .before .before .before .site .given .1)) (c .before .if1 .taken)))
+returns c = rw (c .site-for .ensures) (sym (c .before .before .before .before .before .before .before .before .loop .inv ∙ seek-found _ _ _ _ _ (c .before .before .before .before .before .before .before .loop-test .taken) _ _ (c .before .before .before .before .before .before .entry .ensures ∙ ap siteIs (c .before .before .before .before .site .given .1)) (c .before .if1 .taken)))
 
 sub-left : tie.Need-sub-left Inv-loop μ-loop
 sub-left c = omega arith
@@ -36,16 +42,16 @@ loop-less : tie.Need-loop-less Inv-loop μ-loop
 loop-less c = omega arith
 
 loop-again : tie.Need-loop-again Inv-loop μ-loop
-loop-again c = c .before .before .before .before .before .before .before .loop .inv ∙ seek-more _ _ _ _ 0 _ (c .before .before .before .before .before .before .loop-test .taken) _ _ (c .before .before .before .before .before .entry .ensures ∙ ap siteIs (c .before .before .before .site .given .1)) 0 (c .if1 .left)
+loop-again c = c .before .before .before .before .before .before .before .loop .inv ∙ seek-more _ _ _ _ _ (c .before .before .before .before .before .before .loop-test .taken) _ _ (c .before .before .before .before .before .entry .ensures ∙ ap siteIs (c .before .before .before .site .given .1)) (c .if1 .left)
 
 enum-told : tie.Need-enum-told Inv-loop μ-loop
 enum-told c = search needs
 
 returns-2 : tie.Need-returns-2 Inv-loop μ-loop
-returns-2 c = sym (c .before .before .before .before .loop .inv ∙ seek-refused _ _ _ _ 0 _ (c .before .before .before .loop-test .taken) _ (c .before .before .entry .ensures ∙ ap siteIs (c .enum-told .given .1)))
+returns-2 c = sym (c .before .before .before .before .loop .inv ∙ seek-refused _ _ _ _ _ (c .before .before .before .loop-test .taken) _ (c .before .before .entry .ensures ∙ ap siteIs (c .enum-told .given .1)))
 
 returns-3 : tie.Need-returns-3 Inv-loop μ-loop
-returns-3 c = sym (c .before .loop .inv ∙ seek-ended _ _ _ _ 0 _ (c .loop-test .left))
+returns-3 c = sym (c .before .loop .inv ∙ seek-ended _ _ _ _ _ (c .loop-test .left))
 
 pub seek-on-spec : {M : Type 1} → statement M
 seek-on-spec =
@@ -53,6 +59,8 @@ seek-on-spec =
     (tie.spec
     Inv-loop
     μ-loop
+    cast-address
+    sub-address
     loop-holds
     entry-requires
     enum-known-site

@@ -4,7 +4,6 @@ use Rattle.pos.proofs.Shorts.{long-site, site-is, whole-three}
 use borrow.Author.Needs.{needs}
 use Rattle.pos.proofs.skim.site.Statement.{statement}
 use Rattle.pos.proofs.skim.site.Tie as tie
-use Rattle.pos.proofs.skim.three.Reads as three-reads
 
 no-site-requires : tie.Need-no-site-requires
 no-site-requires c κs = search needs
@@ -42,11 +41,11 @@ wide-requires-3 c κs = search needs
 returns-2 : tie.Need-returns-2
 returns-2 c = rw (c .before .before .wide .ensures, c .before .wide2 .ensures, c .wide3 .ensures) (site-is 3 (omega arith) (whole-three _ _ (omega arith) (c .before .before .before .if3 .taken)))
 
-three-requires : tie.Need-three-requires
-three-requires c κs = search needs
+no-site-requires-2 : tie.Need-no-site-requires-2
+no-site-requires-2 c κs = search needs
 
 returns-3 : tie.Need-returns-3
-returns-3 c = search needs
+returns-3 c = rw (c .no-site2 .ensures) (long-site _ _)
 
 pub site-spec : {M : Type 1} → statement M
 site-spec =
@@ -64,5 +63,5 @@ site-spec =
     wide-requires-2
     wide-requires-3
     returns-2
-    three-requires
+    no-site-requires-2
     returns-3)
