@@ -30,6 +30,12 @@ pub width-two : (v : ℕ) → 128 ≤ v → v < 16384 → 2 ≡ length (shortest
 unfolding shortest
 width-two v h k = sym (ap length (more-group 9 v h) ∙ ap (λ (l : List ℕ). suc (length l)) (last-group 8 (v / 128) (omega arith)))
 
+pub width-three : (v : ℕ) → 16384 ≤ v → v < 2097152 → 3 ≡ length (shortest v)
+unfolding shortest
+width-three v h k =
+    sym (ap length (more-group 9 v (omega arith)) ∙ ap (λ (l : List ℕ). suc (length l)) (more-group 8 (v / 128) (omega arith)) ∙
+    ap (λ (l : List ℕ). suc (suc (length l))) (last-group 7 (v / 128 / 128) (omega arith)))
+
 -- a number takes at most ten bytes
 short-in : (n v : ℕ) → length (shortestIn n v) ≤ n
 unfolding shortestIn
@@ -158,7 +164,7 @@ module _ (previous : ℕ) (site : Site) {step : ℕ} (is : step ≡ site .addres
       let two : at + 2 ≡ suc (suc at) = omega arith in
       rw (plain-entry, add-one at, two)
 
--- ── a number of one byte, and of two ──
+-- ── a number of one byte, of two, and of three ──
 
 module _ (out : List ℕ) (at v : ℕ) where
   pub put-one : v < 128 → set out at v ≡ sets out at (shortest v)
@@ -167,6 +173,12 @@ module _ (out : List ℕ) (at v : ℕ) where
   pub put-two : 128 ≤ v → v < 16384 → set (set out at (v % 128 + 128)) (at + 1) (v / 128) ≡ sets out at (shortest v)
   unfolding shortest
   put-two h k = rw (more-group 9 v h, last-group 8 (v / 128) (omega arith), add-one at)
+
+  pub put-wide : 16384 ≤ v → v < 2097152 → set (set (set out at (v % 128 + 128)) (at + 1) (v / 128 % 128 + 128)) (at + 2) (v / 128 / 128) ≡ sets out at (shortest v)
+  unfolding shortest
+  put-wide h k =
+      let two : at + 2 ≡ suc (suc at) = omega arith in
+      rw (more-group 9 v (omega arith), more-group 8 (v / 128) (omega arith), last-group 7 (v / 128 / 128) (omega arith), add-one at, two)
 
 -- a site whose step and column are single bytes
 pub plain-line : (previous : ℕ) (site : Site) {step : ℕ} → step ≡ site .address - previous → bitOr step (site .column) < 128 →

@@ -1,7 +1,7 @@
 // How sites are encoded: a first pass measures them and finds the first offence, a second one writes. Each pass is a
 // step on one site, which whatever holds the sites can call.
 ghost use mathlib.Core.Path.{_≡_};
-ghost use Prim.Native.Nat.{_+_, _-_, _≤_};
+ghost use Prim.Native.Nat.{_+_, _-_, _<_, _≤_};
 ghost use lib.ListN.{length};
 ghost use lib.Seq.{sets};
 ghost use lib.Dec.{leb};
@@ -37,6 +37,9 @@ fn width(value: u32) -> usize
     }
     if value < 0x4000 {
         return 2;
+    }
+    if value < 0x20_0000 {
+        return 3;
     }
     varint::size(value as u64)
 }
@@ -160,7 +163,18 @@ pub fn write_count(kept: usize, out: &mut [u8]) -> Place
     }
 }
 
-// A number is written, for those that have tested the room; most take a byte or two.
+// A number of a single byte is written, for those that have tested the room.
+fn put_byte(out: &mut [u8], at: usize, value: u32) -> usize
+    requires { ⌜ value < 128 ⌝ }
+    requires { ⌜ at + length (shortest value) ≤ length (now out) ⌝ }
+    ensures { λ r. ⌜ r ≡ at + length (shortest value) ⌝ }
+    ensures { λ _. ⌜ now (out .exit) ≡ sets (now (out .entry)) at (shortest value) ⌝ }
+{
+    out[at] = value as u8;
+    at + 1
+}
+
+// A number is written, for those that have tested the room; most take up to three bytes.
 fn put(out: &mut [u8], at: usize, value: u32) -> usize
     requires { ⌜ at + length (shortest value) ≤ length (now out) ⌝ }
     ensures { λ r. ⌜ r ≡ at + length (shortest value) ⌝ }
@@ -174,6 +188,12 @@ fn put(out: &mut [u8], at: usize, value: u32) -> usize
         out[at] = (value % 128) as u8 + 128;
         out[at + 1] = (value / 128) as u8;
         return at + 2;
+    }
+    if value < 0x20_0000 {
+        out[at] = (value % 128) as u8 + 128;
+        out[at + 1] = (value / 128 % 128) as u8 + 128;
+        out[at + 2] = (value / 128 / 128) as u8;
+        return at + 3;
     }
     varint::put_at(out, at, value as u64)
 }
@@ -192,6 +212,11 @@ fn put_entry(p: Place, site: Site, out: &mut [u8]) -> usize
         out[at + 2] = site.column as u8;
         return at + 3;
     }
+    if step | site.column < 128 {
+        let line = put_byte(out, at, step);
+        let column = put(out, line, site.line);
+        return put_byte(out, column, site.column);
+    }
     let line = put(out, at, step);
     let column = put(out, line, site.line);
     put(out, column, site.column)
@@ -203,11 +228,12 @@ pub fn write_step(p: Place, site: Site, out: &mut [u8]) -> Place
     ensures { λ _. ⌜ now (out .exit) ≡ passes.bytesAfter p site (now (out .entry)) ⌝ }
 {
     let at = p.at;
+    let previous = p.previous;
     if site.line == 0 {
-        return p;
+        return Place { at, previous };
     }
     if out.len() < at {
-        return p;
+        return Place { at, previous };
     }
     if fits(p.previous, site, out.len() - at) {
         return Place {
@@ -215,7 +241,7 @@ pub fn write_step(p: Place, site: Site, out: &mut [u8]) -> Place
             previous: site.address,
         };
     }
-    p
+    Place { at, previous }
 }
 
 // How many sites three slices hold: as many as the shortest has places.
