@@ -295,3 +295,18 @@ pub checking-sound : {s : List ℕ} {w : Walk} → Checking s w → w .left ≡ 
 checking-sound {s} {w} g none-left all-read =
     let ends : Checked.Sound ≡ endedAt (length s) (w .c .at) = rw (eq-eqb (w .c .at) (length s) all-read) in
     ends ∙ checking-ended (g .at) (omega arith)
+
+-- resolving goes on where a walk below the address asked has run
+pub record Seeking (s : List ℕ) (asked : ℕ) (from w : Walk) : Type 0 where
+  pub within : w .room ≤ asked
+  pub finds : sought s asked (from .c) (from .left) (asked - from .room) ≡ sought s asked (w .c) (w .left) (asked - w .room)
+
+pub seeking-runs : {s : List ℕ} {asked : ℕ} {from : Walk} {at left least address : ℕ} {w : Walk} →
+    sought s asked (from .c) (from .left) (asked - from .room) ≡ sought s asked (record { at = at }) left address → address ≤ asked → asked < 2 ^ 32 →
+    Runs s at left least (asked - address) w → Seeking s asked from w
+seeking-runs {s} {asked} {address = address} {w} is below fits r =
+    let same : address + (asked - address - w .room) ≡ asked - w .room = omega (arith, r .lower) in
+    record {
+      within = omega (arith, r .lower);
+      finds = is ∙ r .finds asked address (omega arith) (omega arith) ∙ ap (sought s asked (w .c) (w .left)) same;
+    }

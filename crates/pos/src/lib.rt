@@ -121,23 +121,19 @@ fn seek(table: &[u8], asked: u32, from: Walk) -> Resolved
     seek_on(table, asked, from)
 }
 
-// The same, an entry at a time.
+// The same, an entry of any width at a time, and running again behind each.
 fn seek_on(table: &[u8], asked: u32, from: Walk) -> Resolved
     requires { ⌜ from .room ≤ asked ⌝ }
     ensures { λ r. ⌜ r ≡ sought (now (table .entry)) asked (from .c) (from .left) (asked - from .room) ⌝ }
 {
-    let mut c = from.c;
-    let mut left = from.left;
-    let mut address = asked - from.room as u32;
-    while 0 < left {
-        match reading::entry(table, c, 0, address) {
+    let mut w = from;
+    while 0 < w.left {
+        match reading::entry(table, w.c, 0, asked - w.room as u32) {
             ReadSite::Got { site, next } => {
                 if asked <= site.address {
                     return site_for(asked, site);
                 }
-                c = next;
-                left -= 1;
-                address = site.address;
+                w = skim::run(table, next.at, w.left - 1, 0, (asked - site.address) as u64);
             }
             ReadSite::Refused(_) => {
                 return Resolved::Nothing;
