@@ -144,7 +144,7 @@ fn standing(at: usize, left: u32, least: u32, room: u64) -> Walk
     ensures { λ w. ⌜ w ≡ walkAt at left least room ⌝ }
 {
     Walk {
-        c: Cursor { at },
+        c: Cursor::new().advance(at),
         left,
         least,
         room,
