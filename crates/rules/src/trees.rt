@@ -119,8 +119,8 @@ fn map_keeps(rule: u8, t: &[u64], used: usize, at: usize, text: &[u8]) -> bool
     }
 }
 
-// The keys of all maps. Each map's entries are walked over with all that they own, so a row is passed once for each map that it stands in:
-// of rows that keep rule 6 at most 65 times the rows are passed, and of any rows at most their square.
+// The keys of all maps. Each map's entries are walked over with all that they own, so a row is passed once for each map that it
+// stands in, and once for itself: at most the square of the rows, and for tables that keep rules 1 and 6 at most 65 times the rows.
 pub fn keys(rule: u8, t: &[u64], used: usize, text: &[u8]) -> bool
     requires { ⌜ used * 8 ≤ length (now t) ⌝ }
     ensures { λ r. ⌜ r ≡ every (keeps.keepsKey rule (now (text .entry))) (definition.keyed (cut 8 used (now (t .entry)))) ⌝ }
