@@ -3,3 +3,4 @@ pub mod Groups
 pub mod Narrow
 pub mod Halves
 pub mod Shortest
+pub mod Word
