@@ -4,3 +4,4 @@ pub mod Narrow
 pub mod Halves
 pub mod Shortest
 pub mod Word
+pub mod Squeeze
