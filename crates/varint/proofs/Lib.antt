@@ -5,3 +5,4 @@ pub mod Halves
 pub mod Shortest
 pub mod Word
 pub mod Squeeze
+pub mod Ended

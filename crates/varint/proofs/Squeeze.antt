@@ -104,10 +104,10 @@ module _ (m s : ℕ) where
       bitOr (bitAnd (lanes whole ps) (lanes mask-low ps)) (bitAnd (lanes whole ps) (lanes mask-high ps) / 2 ^ s) ≡ lanes near ps
   squeeze-step ps =
       let lows : bitAnd (lanes whole ps) (lanes mask-low ps) ≡ lanes low ps =
-            lane-wise bitAnd and-block refl whole mask-low low whole-fits mask-low-fits low-left ps in
+      lane-wise bitAnd and-block refl whole mask-low low whole-fits mask-low-fits low-left ps in
       let highs : bitAnd (lanes whole ps) (lanes mask-high ps) ≡ lanes upper ps * 2 ^ s =
-            lane-wise bitAnd and-block refl whole mask-high (λ p. upper p * 2 ^ s) whole-fits mask-high-fits high-left ps ∙ lanes-shifted upper ps in
+      lane-wise bitAnd and-block refl whole mask-high (λ p. upper p * 2 ^ s) whole-fits mask-high-fits high-left ps ∙ lanes-shifted upper ps in
       let down : bitAnd (lanes whole ps) (lanes mask-high ps) / 2 ^ s ≡ lanes upper ps =
-            ap (λ (x : ℕ). x / 2 ^ s) highs ∙ shl-shr (lanes upper ps) s in
+      ap (λ (x : ℕ). x / 2 ^ s) highs ∙ shl-shr (lanes upper ps) s in
       ap₂ bitOr lows down
       ∙ lane-wise bitOr or-block refl low upper near low-fits upper-fits (λ p. or-shifted-r (p .hi % 2 ^ m) m (low p) (part-lt (p .lo))) ps

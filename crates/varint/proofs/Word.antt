@@ -75,7 +75,7 @@ unfolding word ends tops
 ends-are none = refl
 ends-are (more {b} {bs} h r) =
     let split : (2 ^ (8 * suc (length bs)) - 1) - (word bs * 2 ^ 8 + b) ≡ ((2 ^ (8 * length bs) - 1) - word bs) * 2 ^ 8 + (255 - b) =
-          rw (ones-more (length bs)) (omega (arith, word-lt r)) in
+    rw (ones-more (length bs)) (omega (arith, word-lt r)) in
     let top : bitAnd (255 - b) (2 ^ (1 + 7) - 2 ^ 7) ≡ (1 - b / 128) * 128 = rw (and-high (255 - b) 1 7) (omega arith) in
     rw split
     (and-block 8 ((2 ^ (8 * length bs) - 1) - word bs) (tops (length bs)) (255 - b) 128 (omega arith) (omega arith)
