@@ -13,12 +13,8 @@ use Rattle.grammar.specs.declared.Cursor.{Cursor}
 use Rattle.grammar.specs.Outcome.{advanced, Outcome, got, refused, after, pure, refuse, _>>=_}
 use Rattle.grammar.specs.Combinators.{if_then_else_, taking, byte}
 use Rattle.grammar.specs.Number.{groups}
+use Rattle.varint.specs.Word.{bytesAt}
 use Rattle.varint.proofs.Word.{ends, taken}
-
--- n bytes from a place on
-unfoldable pub bytesAt : List ℕ → ℕ → ℕ → List ℕ
-bytesAt s at zero = []
-bytesAt s at (suc n) = getD s at 0 ∷ bytesAt s (at + 1) n
 
 -- the payloads up to the first byte that ends a number, side by side
 unfoldable pub value : List ℕ → ℕ

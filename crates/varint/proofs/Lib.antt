@@ -6,3 +6,5 @@ pub mod Shortest
 pub mod Word
 pub mod Squeeze
 pub mod Ended
+pub mod Payloads
+pub mod Read

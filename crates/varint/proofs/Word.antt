@@ -6,17 +6,13 @@ use mathlib.Core.List.{List, [], _∷_}
 use native.Mathlib.Nat.{pow-suc, mul-assoc}
 use native.Mathlib.Omega.{arith}
 use lib.Bits.{bitAnd, and-block, and-mask, and-high, and-zero-r}
-use lib.Pow.{pow-add}
+use lib.Pow.{pow-add, pow-pos}
 use lib.ListN.{length}
 use lib.Count.{trailingZeros, under}
 use lib.Dec.{ltb}
 use Rattle.grammar.specs.Combinators.{if_then_else_}
 use borrow.Author.Tests.{lt-ltb, le-ltb, ltb-true, ltb-false}
-
--- the bytes as one number
-unfoldable pub word : List ℕ → ℕ
-word [] = 0
-word (b ∷ bs) = word bs * 2 ^ 8 + b
+use Rattle.varint.specs.Word.{word, Bytes, none, more}
 
 -- the top bit of each byte that has it clear, and so ends a number
 unfoldable pub ends : List ℕ → ℕ
@@ -37,10 +33,6 @@ taken (b ∷ bs) = if ltb b 128 then 1 else suc (taken bs)
 unfoldable pub kept : List ℕ → ℕ
 kept [] = 0
 kept (b ∷ bs) = if ltb b 128 then b else (kept bs * 2 ^ 8 + b)
-
-pub data Bytes : List ℕ → Type 0 where
-  none : Bytes []
-  more : {b : ℕ} {bs : List ℕ} → b < 256 → Bytes bs → Bytes (b ∷ bs)
 
 -- a byte that ends a number has no bit in common with its mark
 pub apart : {bs : List ℕ} → Bytes bs → bitAnd (word bs) (ends bs) ≡ 0
@@ -145,3 +137,27 @@ zeros-are (more {b} {bs} h r) some = go (λ q. zeros-are r q) (ltb b 128) refl
         let m : ends bs * 2 ^ 8 + (1 - b / 128) * 128 ≡ ends bs * 2 ^ 8 = omega arith in
         let n : 8 * suc (length bs) ≡ 8 + 8 * length bs = omega arith in
         rw (m, n, zeros-by 8 (8 * length bs) (ends bs)) (omega (arith, rest behind))
+
+-- the byte that ends the number has its top bit clear
+pub kept-room : {bs : List ℕ} → Bytes bs → 0 < ends bs → 2 * kept bs + 2 ≤ 2 ^ (8 * length bs)
+unfolding ends kept
+kept-room none h = absurd (omega arith)
+kept-room (more {b} {bs} h r) some = go (λ q. kept-room r q) (ltb b 128) refl
+  where
+    go : (0 < ends bs → 2 * kept bs + 2 ≤ 2 ^ (8 * length bs)) → (t : Bool) → ltb b 128 ≡ t →
+        2 * (if t then b else (kept bs * 2 ^ 8 + b)) + 2 ≤ 2 ^ (8 * suc (length bs))
+    go rest true e =
+        let l : b < 128 = ltb-true _ _ e in
+        rw (ones-more (length bs)) (omega (arith, pow-pos (8 * length bs)))
+    go rest false e =
+        let l : 128 ≤ b = ltb-false _ _ e in
+        rw (ones-more (length bs)) (omega (arith, rest (omega arith)))
+
+pub taken-le : {bs : List ℕ} → Bytes bs → taken bs ≤ length bs
+unfolding taken
+taken-le none = omega arith
+taken-le (more {b} {bs} h r) = go (taken-le r) (ltb b 128)
+  where
+    go : taken bs ≤ length bs → (t : Bool) → (if t then 1 else suc (taken bs)) ≤ suc (length bs)
+    go rest true = omega arith
+    go rest false = omega arith

@@ -1,12 +1,14 @@
 // LEB128, the encoding everything in a Rhai Grain artifact is counted in (pos/varint.rs, and the number reads of
 // `Cursor` in format/mod.rs). A read takes the bytes and a place and answers the next place; a refused one moves nothing.
 ghost use mathlib.Core.Path.{_≡_};
-ghost use Prim.Native.Nat.{_+_, _*_, _%_, _^_, _<_, _≤_};
+ghost use Prim.Native.Nat.{_+_, _-_, _*_, _%_, _^_, _<_, _≤_};
 ghost use lib.ListN.{length};
 ghost use lib.Seq.{sets};
 ghost use Rattle.grammar.specs.Number as definition;
 ghost use Rattle.varint.specs.Answers.{numberIs, indexIs, smallIs, signedIs, writtenIs, putBytes};
 ghost use Rattle.varint.specs.Holding.{Holding};
+ghost use Rattle.varint.specs.Word.{word, bytesAt, Bytes, payloads};
+ghost use Rattle.varint.specs.Answered.{place, answered};
 use grammar::Cursor;
 use refusal::Refusal;
 
@@ -51,65 +53,128 @@ fn joined(value: u64, byte: u8, k: usize) -> u64
     value | wide(byte & 0x7f) << 7 * k
 }
 
-// An unsigned number. The first two groups apart: a loop so short is unrolled, and stays small enough to be inlined.
+// A number's groups as read: of a refused one no byte is taken.
+struct Number {
+    value: u64,
+    taken: usize,
+}
+
+// An unsigned number.
 pub fn uvarint(s: &[u8], c: Cursor) -> ReadNumber
     ensures { λ r. ⌜ definition.number 64 (now (s .entry)) c ≡ numberIs r ⌝ }
 {
     let at = c.at;
-    if s.len() <= at {
-        return ReadNumber::Refused(Refusal::Truncated);
-    }
-    let left = s.len() - at;
-    let mut value: u64 = 0;
-    let mut k: usize = 0;
-    while k < 2 {
-        if left <= k {
+    let left = rest(s, at);
+    let g = read_groups(s, at, left);
+    let taken = g.taken;
+    if taken == 0 {
+        if left < 10 {
             return ReadNumber::Refused(Refusal::Truncated);
         }
-        let byte = s[at + k];
-        value = joined(value, byte, k);
-        k += 1;
-        if byte < 128 {
-            return ReadNumber::Got {
-                value,
-                next: c.advance(k),
-            };
-        }
+        return ReadNumber::Refused(Refusal::MalformedVarint);
     }
-    further(s, c, value)
+    ReadNumber::Got {
+        value: g.value,
+        next: c.advance(taken),
+    }
 }
 
-// The number from its third group on: at most ten groups, and of the tenth only one bit is left. One test of the loop
-// says both that a byte is there and that it is not the tenth.
-fn further(s: &[u8], c: Cursor, first: u64) -> ReadNumber
-    requires { ⌜ Holding (now s) c first 2 ⌝ }
-    ensures { λ r. ⌜ definition.number 64 (now (s .entry)) c ≡ numberIs r ⌝ }
+fn rest(s: &[u8], at: usize) -> usize
+    ensures { λ r. ⌜ r ≡ length (now (s .entry)) - at ⌝ }
 {
-    let at = c.at;
-    let left = s.len() - at;
-    let most = if left < 9 { left } else { 9 };
-    let mut value = first;
-    let mut k: usize = 2;
-    while k < most {
+    if at < s.len() { s.len() - at } else { 0 }
+}
+
+// Where all of ten bytes are there, none has to be asked for.
+fn read_groups(s: &[u8], at: usize, left: usize) -> Number
+    requires { ⌜ left ≡ length (now s) - at ⌝ }
+    ensures { λ r. ⌜ r .taken ≤ left ⌝ }
+    ensures { λ r. ⌜ definition.number 64 (now (s .entry)) (place at) ≡ answered left (place at) (r .value) (r .taken) ⌝ }
+{
+    if left < 10 { short(s, at, left) } else { long(s, at, left) }
+}
+
+// Near the end of the bytes: one group after the other.
+fn short(s: &[u8], at: usize, left: usize) -> Number
+    requires { ⌜ left ≡ length (now s) - at ⌝ }
+    requires { ⌜ left < 10 ⌝ }
+    ensures { λ r. ⌜ r .taken ≤ left ⌝ }
+    ensures { λ r. ⌜ definition.number 64 (now (s .entry)) (place at) ≡ answered left (place at) (r .value) (r .taken) ⌝ }
+{
+    let mut value: u64 = 0;
+    let mut k: usize = 0;
+    while k < left {
         let group = s[at + k];
         value = joined(value, group, k);
         k += 1;
         if group < 128 {
-            let next = c.advance(k);
-            return ReadNumber::Got { value, next };
+            return Number { value, taken: k };
         }
     }
-    if left <= 9 {
-        return ReadNumber::Refused(Refusal::Truncated);
+    Number { value: 0, taken: 0 }
+}
+
+// Most numbers are of one byte or two.
+fn long(s: &[u8], at: usize, left: usize) -> Number
+    requires { ⌜ left ≡ length (now s) - at ⌝ }
+    requires { ⌜ 10 ≤ left ⌝ }
+    ensures { λ r. ⌜ r .taken ≤ left ⌝ }
+    ensures { λ r. ⌜ definition.number 64 (now (s .entry)) (place at) ≡ answered left (place at) (r .value) (r .taken) ⌝ }
+{
+    let first = s[at];
+    if first < 128 {
+        return Number {
+            value: wide(first),
+            taken: 1,
+        };
     }
-    let tenth = s[at + 9];
-    if 1 < tenth {
-        return ReadNumber::Refused(Refusal::MalformedVarint);
+    let second = s[at + 1];
+    let value = joined(wide(first & 0x7f), second, 1);
+    if second < 128 {
+        return Number { value, taken: 2 };
     }
-    ReadNumber::Got {
-        value: value | wide(tenth) << 63,
-        next: c.advance(10),
+    behind_two(s, at, left, value)
+}
+
+// The other eight bytes as one word: no step waits for a byte's end mark.
+fn behind_two(s: &[u8], at: usize, left: usize, first: u64) -> Number
+    requires { ⌜ left ≡ length (now s) - at ⌝ }
+    requires { ⌜ 10 ≤ left ⌝ }
+    requires { ⌜ Holding (now s) (place at) first 2 ⌝ }
+    ensures { λ r. ⌜ r .taken ≤ left ⌝ }
+    ensures { λ r. ⌜ definition.number 64 (now (s .entry)) (place at) ≡ answered left (place at) (r .value) (r .taken) ⌝ }
+{
+    let x = eight(s, at + 2);
+    let ends = !x & 0x8080_8080_8080_8080;
+    if ends == 0 {
+        return Number { value: 0, taken: 0 };
     }
+    let kept = x & ends - 1;
+    if 1 < kept >> 56 {
+        return Number { value: 0, taken: 0 };
+    }
+    Number {
+        value: first | squeezed(kept) << 14,
+        taken: (u64::trailing_zeros(ends) / 8) as usize + 3,
+    }
+}
+
+fn eight(s: &[u8], at: usize) -> u64
+    requires { ⌜ at + 8 ≤ length (now s) ⌝ }
+    ensures { λ r. ⌜ r ≡ word (bytesAt (now (s .entry)) at 8) ⌝ }
+    ensures { λ _. ⌜ Bytes (bytesAt (now (s .entry)) at 8) ⌝ }
+{
+    let low = wide(s[at]) | wide(s[at + 1]) << 8 | wide(s[at + 2]) << 16 | wide(s[at + 3]) << 24;
+    low | wide(s[at + 4]) << 32 | wide(s[at + 5]) << 40 | wide(s[at + 6]) << 48 | wide(s[at + 7]) << 56
+}
+
+// The payloads of eight bytes side by side: of neighbours, of pairs, and of fours.
+fn squeezed(x: u64) -> u64
+    ensures { λ r. ⌜ r ≡ payloads 8 x ⌝ }
+{
+    let a = x & 0x007f_007f_007f_007f | (x & 0x7f00_7f00_7f00_7f00) >> 1;
+    let b = a & 0x0000_3fff_0000_3fff | (a & 0x3fff_0000_3fff_0000) >> 2;
+    b & 0x0fff_ffff | (b & 0x0fff_ffff_0000_0000) >> 4
 }
 
 // A number of 32 bits, as indices are.
