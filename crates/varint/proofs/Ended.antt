@@ -1,16 +1,16 @@
 -- What the groups of a number come to where all of their bytes are there: by the bytes' end marks.
-use Prim.Native.Nat.{ℕ, zero, suc, _+_, _*_, _/_, _%_, _^_, _-_, _≤_, _<_}
-use mathlib.Core.Path.{_≡_, refl, sym, _∙_, ap, ap₂}
+use Prim.Native.Nat.{ℕ, zero, suc, _+_, _*_, _%_, _-_, _≤_, _<_}
+use mathlib.Core.Path.{_≡_, refl}
 use mathlib.Core.Bool.{Bool, true, false}
 use mathlib.Core.List.{List, [], _∷_}
 use native.Mathlib.Nat.{add-assoc}
 use native.Mathlib.Omega.{arith}
 use lib.ListN.{length, getD}
 use lib.Dec.{ltb}
-use borrow.Author.Tests.{lt-ltb, le-ltb, le-leb, ltb-true, ltb-false}
+use borrow.Author.Tests.{le-ltb, le-leb, ltb-false}
 use Rattle.refusal.specs.declared.Refusal.{Refusal}
 use Rattle.grammar.specs.declared.Cursor.{Cursor}
-use Rattle.grammar.specs.Outcome.{advanced, Outcome, got, refused, after, pure, refuse, _>>=_}
+use Rattle.grammar.specs.Outcome.{advanced, got, refused, pure, refuse, _>>=_}
 use Rattle.grammar.specs.Combinators.{if_then_else_, taking, byte}
 use Rattle.grammar.specs.Number.{groups}
 use Rattle.varint.specs.Word.{bytesAt}

@@ -1,19 +1,17 @@
 -- The groups of a number: how seven bits are joined to those read before, and what the definition says while k groups are held.
-use Prim.Native.Nat.{ℕ, zero, suc, _+_, _*_, _/_, _%_, _^_, _-_, _≤_, _<_}
-use mathlib.Core.Path.{_≡_, refl, sym, _∙_, ap, subst}
-use mathlib.Core.Bool.{Bool, true, false}
+use Prim.Native.Nat.{ℕ, suc, _+_, _*_, _%_, _^_, _-_, _≤_, _<_}
+use mathlib.Core.Path.{_≡_, refl, _∙_, ap}
 use mathlib.Core.List.{List}
 use native.Mathlib.Nat.{add-comm, add-assoc, add-zero, mul-le-mul-right, lt-of-lt-of-le}
 use native.Mathlib.Omega.{arith}
 use lib.ListN.{length, getD}
 use lib.Bits.{bitAnd, bitOr, and-mask, or-shifted-r}
-use lib.Pow.{shl-exact, pow-add, shl-lt, pow-mono, pow-pos}
-use lib.Dec.{ltb}
-use borrow.Author.Tests.{lt-ltb, le-ltb, le-leb, lt-leb, ltb-true, ltb-false}
+use lib.Pow.{shl-exact, pow-add, pow-mono}
+use borrow.Author.Tests.{lt-ltb, le-ltb, le-leb, lt-leb}
 use Rattle.refusal.specs.declared.Refusal.{Refusal}
 use Rattle.grammar.specs.declared.Cursor.{Cursor}
-use Rattle.grammar.specs.Outcome.{advanced, Outcome, got, refused, after, pure, refuse, _>>=_, _>>_}
-use Rattle.grammar.specs.Combinators.{if_then_else_, enough, taking, byte, check}
+use Rattle.grammar.specs.Outcome.{advanced, Outcome, got, refused, after, pure, _>>=_, _>>_}
+use Rattle.grammar.specs.Combinators.{taking, byte}
 use Rattle.grammar.specs.Number.{groups, number}
 use Rattle.grammar.proofs.Number.{tested, number-tested}
 use Rattle.varint.specs.Holding.{held, Holding}
@@ -101,86 +99,3 @@ module _ {s : List ℕ} {c : Cursor} {value k : ℕ} (g : Holding s c value k) w
           let n : 10 - k ≡ suc (9 - k) = omega arith in
           let n′ : 10 - (k + 1) ≡ 9 - k = omega arith in
           rw (g .rest, n, n′) (held-more s c k (9 - k) value h more)
-
-pub holding-at : {s : List ℕ} {c : Cursor} {value k n : ℕ} → Holding s c value k → k ≡ n → Holding s c value n
-holding-at {s} {c} {value} g e = subst (Holding s c value) e g
-
--- no group is left
-ended : (s : List ℕ) (c : Cursor) (value k : ℕ) → held value k (groups 0 s (advanced c k)) ≡ refused Refusal.MalformedVarint
-unfolding groups refuse
-ended s c value k = refl
-
--- the tenth group: one bit is left for it
-module _ {s : List ℕ} {c : Cursor} {value : ℕ} (g : Holding s c value 9) (h : c .at + 9 < length s) where
-  abbrev tenth : ℕ
-  tenth = getD s (c .at + 9) 0
-
-  pub tenth-fits : tenth ≤ 1 → number 64 s c ≡ got (bitOr value (tenth * 2 ^ 63 % 2 ^ 64)) (advanced c 10)
-  tenth-fits one =
-      let same : tenth % 128 ≡ tenth = omega arith in
-      let below : value + tenth * 2 ^ 63 < 2 ^ 64 = omega (arith, g .fits) in
-      rw (
-        number-from g (held-last s c 9 0 value h (omega arith)),
-        same,
-        lt-ltb _ (2 ^ 64) below,
-        shl-exact {a = tenth} 1 63 64 (omega arith) (omega arith),
-        or-shifted-r tenth 63 value (g .fits),
-        add-comm (tenth * 2 ^ 63) value,
-      )
-
-  pub tenth-wide : 1 < tenth → number 64 s c ≡ refused Refusal.MalformedVarint
-  tenth-wide wide = go (ltb tenth 128) refl
-    where
-      go : (b : Bool) → ltb tenth 128 ≡ b → number 64 s c ≡ refused Refusal.MalformedVarint
-      go true e =
-          let last : tenth < 128 = ltb-true _ _ e in
-          let above : 2 ^ 64 ≤ value + tenth % 128 * 2 ^ 63 = omega arith in
-          rw (number-from g (held-last s c 9 0 value h last), le-ltb _ (2 ^ 64) above)
-      go false e = number-from g (held-more s c 9 0 value h (ltb-false _ _ e) ∙ ended s c _ 10)
-
--- within a loop that reads the first nine groups, or those that are there
-pub record Reading (s : List ℕ) (c : Cursor) (value k left most : ℕ) : Type 0 where
-  pub holds : Holding s c value k
-  pub all : left + c .at ≡ length s
-  pub most-few : most ≤ 9
-  pub there : most ≤ left
-  pub cut : left ≤ 9 → left ≤ most
-  pub nine : 9 ≤ left → 9 ≤ most
-
-module _ {s : List ℕ} {c : Cursor} {value k left most : ℕ} where
-  pub reading-cut : Holding s c value k → left + c .at ≡ length s → left < 9 → most ≡ left → Reading s c value k left most
-  reading-cut g all h e =
-      record { holds = g; all = all; most-few = omega arith; there = omega arith; cut = λ _. omega arith; nine = λ long. absurd (omega arith) }
-
-  pub reading-nine : Holding s c value k → left + c .at ≡ length s → 9 ≤ left → most ≡ 9 → Reading s c value k left most
-  reading-nine g all h e =
-      record { holds = g; all = all; most-few = omega arith; there = omega arith; cut = λ short. omega arith; nine = λ _. omega arith }
-
-  module _ (r : Reading s c value k left most) where
-    pub reading-inside : k < most → c .at + k < length s
-    reading-inside h = omega (arith, r .there, r .all)
-
-    pub reading-few : k < most → k < 9
-    reading-few h = omega (arith, r .most-few)
-
-    pub reading-more : k < most → 128 ≤ getD s (c .at + k) 0 → Reading s c (value + getD s (c .at + k) 0 % 128 * 2 ^ (7 * k)) (k + 1) left most
-    reading-more h more =
-        record {
-          holds = holding-more (r .holds) (reading-few h) (reading-inside h) more;
-          all = r .all;
-          most-few = r .most-few;
-          there = r .there;
-          cut = r .cut;
-          nine = r .nine;
-        }
-
-    pub reading-last : k < most → getD s (c .at + k) 0 < 128 →
-        number 64 s c ≡ got (value + getD s (c .at + k) 0 % 128 * 2 ^ (7 * k)) (advanced c (k + 1))
-    reading-last h last = holding-last (r .holds) (reading-few h) (reading-inside h) last
-
-    -- all that are there are read, and none was the last
-    pub reading-none : most ≤ k → left ≤ 9 → number 64 s c ≡ refused Refusal.Truncated
-    reading-none h short = holding-cut (r .holds) (omega (arith, r .cut short, r .all))
-
-    pub nine-read : most ≤ k → 9 < left → Holding s c value 9
-    nine-read h long = holding-at (r .holds) (omega (arith, r .nine (omega arith), r .holds .few))

@@ -1,18 +1,18 @@
 -- The payloads of a word's bytes side by side: how they are squeezed, what they come to, and where they are too many bits.
 use Prim.Native.Nat.{ℕ, zero, suc, _+_, _*_, _/_, _%_, _^_, _-_, _≤_, _<_}
-use mathlib.Core.Path.{_≡_, refl, sym, _∙_, ap, ap₂}
+use mathlib.Core.Path.{_≡_, refl, sym, _∙_, ap}
 use mathlib.Core.Bool.{Bool, true, false}
 use mathlib.Core.List.{List, [], _∷_}
 use native.Mathlib.Nat.{add-comm, add-assoc, mod-eq-of-lt}
 use native.Mathlib.Omega.{arith}
 use lib.Bits.{bitAnd, bitOr, or-shifted-r}
-use lib.Pow.{pow-add, pow-pos, shl-exact, shl-lt}
+use lib.Pow.{pow-add, shl-exact}
 use lib.ListN.{length, getD}
 use lib.Dec.{ltb}
 use Rattle.grammar.specs.Combinators.{if_then_else_}
-use borrow.Author.Tests.{lt-ltb, le-ltb, ltb-true, ltb-false}
+use borrow.Author.Tests.{ltb-true}
 use Rattle.varint.specs.Word.{word, bytesAt, payloads, Bytes, none, more}
-use Rattle.varint.proofs.Word.{ends, kept}
+use Rattle.varint.proofs.Word.{kept}
 use Rattle.varint.proofs.Ended.{value}
 use Rattle.varint.proofs.Squeeze.{Pair, lanes, whole, near, squeeze-step}
 

@@ -1,23 +1,20 @@
 -- What the private reads of a number answer: near the end by the groups held, else by the word behind the first two.
 use Prim.Native.Nat.{ℕ, zero, suc, _+_, _*_, _/_, _%_, _^_, _-_, _≤_, _<_}
-use mathlib.Core.Path.{_≡_, refl, sym, _∙_, ap, ap₂, subst}
-use mathlib.Core.Bool.{Bool, true, false}
-use mathlib.Core.List.{List, [], _∷_}
-use native.Mathlib.Nat.{add-comm, add-assoc, add-zero}
+use mathlib.Core.Path.{_≡_, sym, _∙_}
+use mathlib.Core.List.{List}
+use native.Mathlib.Nat.{add-assoc, add-zero}
 use native.Mathlib.Omega.{arith}
 use lib.Bits.{bitAnd, bitOr, and-mask, or-shifted-r}
 use lib.Pow.{shl-exact}
 use lib.Count.{trailingZeros}
 use lib.ListN.{length, getD}
-use lib.Dec.{ltb, eqb}
-use borrow.Author.Tests.{lt-ltb, le-ltb, ltb-true, ltb-false, eq-eqb, ne-eqb}
+use borrow.Author.Tests.{lt-ltb, le-ltb, eq-eqb, ne-eqb}
 use Rattle.refusal.specs.declared.Refusal.{Refusal}
 use Rattle.grammar.specs.declared.Cursor.{Cursor}
-use Rattle.grammar.specs.Outcome.{advanced, Outcome, got, refused}
-use Rattle.grammar.specs.Combinators.{if_then_else_}
+use Rattle.grammar.specs.Outcome.{advanced, got, refused}
 use Rattle.grammar.specs.Number.{groups, number}
-use Rattle.grammar.proofs.Number.{tested, number-tested}
-use Rattle.varint.specs.Holding.{held, Holding}
+use Rattle.grammar.proofs.Number.{number-tested}
+use Rattle.varint.specs.Holding.{Holding}
 use Rattle.varint.specs.Answered.{place, whyNot, answered}
 use Rattle.varint.specs.Word.{word, bytesAt, payloads, Bytes}
 use Rattle.varint.proofs.Groups.{none-left, holding-none, holding-cut, holding-last, holding-more}
@@ -26,9 +23,6 @@ use Rattle.varint.proofs.Ended.{value, groups-ended, groups-endless}
 use Rattle.varint.proofs.Payloads.{payloads-below, payloads-above, payloads-are, length-at}
 
 -- each answer of a read as the outcome it stands for
-pub answered-got : (left : ℕ) (c : Cursor) (v n : ℕ) → 0 < n → got v (advanced c n) ≡ answered left c v n
-answered-got left c v n h = rw (ne-eqb n 0 (omega arith))
-
 pub answered-some : (left : ℕ) (c : Cursor) (v n : ℕ) → (n ≡ 0 → ⊥) → answered left c v n ≡ got v (advanced c n)
 answered-some left c v n h = rw (ne-eqb n 0 h)
 
@@ -148,8 +142,7 @@ module _ {s : List ℕ} {at first left x : ℕ} (all : left ≡ length s - at) (
       let below : first + value (behind s at) * 2 ^ 14 < 2 ^ 64 = omega (arith, value-is some, few some narrow, g .fits) in
       let fits : size < 2 ^ 50 = omega (arith, few some narrow) in
       let joined : bitOr first (size * 2 ^ 14 % 2 ^ 64) ≡ first + value (behind s at) * 2 ^ 14 =
-      rw (shl-exact {a = size} 50 14 64 fits (omega arith), or-shifted-r size 14 first (g .fits)) (omega (arith, value-is some)) in
-      (
+      rw (shl-exact {a = size} 50 14 64 fits (omega arith), or-shifted-r size 14 first (g .fits)) (omega (arith, value-is some)) in (
         omega (arith, taken-few),
-        rw (count, joined, number-tested 64 s (place at), ended some, lt-ltb _ (2 ^ 64) below) (answered-got left (place at) _ (2 + taken (behind s at)) (omega arith)),
+        rw (count, joined, number-tested 64 s (place at), ended some, lt-ltb _ (2 ^ 64) below) (sym (answered-some left (place at) _ (2 + taken (behind s at)) (omega arith))),
       )

@@ -8,10 +8,10 @@ use native.Mathlib.Omega.{arith}
 use lib.Bits.{bitAnd, and-block, and-mask, and-high, and-zero-r}
 use lib.Pow.{pow-add, pow-pos}
 use lib.ListN.{length}
-use lib.Count.{trailingZeros, under}
+use lib.Count.{trailingZeros}
 use lib.Dec.{ltb}
 use Rattle.grammar.specs.Combinators.{if_then_else_}
-use borrow.Author.Tests.{lt-ltb, le-ltb, ltb-true, ltb-false}
+use borrow.Author.Tests.{ltb-true, ltb-false}
 use Rattle.varint.specs.Word.{word, Bytes, none, more}
 
 -- the top bit of each byte that has it clear, and so ends a number

@@ -1,6 +1,5 @@
 -- What the private reads of a number answer: the value and the bytes taken, of which none says that the number is refused.
 use Prim.Native.Nat.{ℕ}
-use mathlib.Core.List.{List}
 use lib.Dec.{ltb, eqb}
 use Rattle.refusal.specs.declared.Refusal.{Refusal}
 use Rattle.grammar.specs.declared.Cursor.{Cursor}

@@ -79,6 +79,7 @@ pub fn uvarint(s: &[u8], c: Cursor) -> ReadNumber
     }
 }
 
+// How many bytes stand from a place on.
 fn rest(s: &[u8], at: usize) -> usize
     ensures { λ r. ⌜ r ≡ length (now (s .entry)) - at ⌝ }
 {
@@ -91,7 +92,11 @@ fn read_groups(s: &[u8], at: usize, left: usize) -> Number
     ensures { λ r. ⌜ r .taken ≤ left ⌝ }
     ensures { λ r. ⌜ definition.number 64 (now (s .entry)) (place at) ≡ answered left (place at) (r .value) (r .taken) ⌝ }
 {
-    if left < 10 { short(s, at, left) } else { long(s, at, left) }
+    if left < 10 {
+        short(s, at, left)
+    } else {
+        long(s, at, left)
+    }
 }
 
 // Near the end of the bytes: one group after the other.
@@ -159,13 +164,18 @@ fn behind_two(s: &[u8], at: usize, left: usize, first: u64) -> Number
     }
 }
 
+// Eight bytes as one word, the first lowest; it is compiled to one load.
 fn eight(s: &[u8], at: usize) -> u64
     requires { ⌜ at + 8 ≤ length (now s) ⌝ }
     ensures { λ r. ⌜ r ≡ word (bytesAt (now (s .entry)) at 8) ⌝ }
     ensures { λ _. ⌜ Bytes (bytesAt (now (s .entry)) at 8) ⌝ }
 {
     let low = wide(s[at]) | wide(s[at + 1]) << 8 | wide(s[at + 2]) << 16 | wide(s[at + 3]) << 24;
-    low | wide(s[at + 4]) << 32 | wide(s[at + 5]) << 40 | wide(s[at + 6]) << 48 | wide(s[at + 7]) << 56
+    low
+        | wide(s[at + 4]) << 32
+        | wide(s[at + 5]) << 40
+        | wide(s[at + 6]) << 48
+        | wide(s[at + 7]) << 56
 }
 
 // The payloads of eight bytes side by side: of neighbours, of pairs, and of fours.

@@ -1,106 +1,80 @@
+-- Each byte is shifted above those before it, which is as much as adding it there.
 use Prim.Native.Nat.{ℕ, _<_}
 use lib.ListN.{getD}
 use borrow.Author.Needs.{needs}
 use Rattle.varint.proofs.Payloads.{eight-are, bytes-at}
 use Rattle.varint.proofs.eight.Statement.{statement}
 use Rattle.varint.proofs.eight.Tie as tie
-use Rattle.varint.proofs.eight.Reads as reads
-use Rattle.varint.proofs.eight.Lts as lts
-use Rattle.varint.proofs.wide.Reads as wide-reads
 
--- src/lib.rt:166:20
 shared-slice-read-wide : tie.Need-shared-slice-read-wide
 shared-slice-read-wide c = search needs
 
--- src/lib.rt:166:15
 wide-requires : tie.Need-wide-requires
 wide-requires c κs = search needs
 
--- src/lib.rt:166:36
 add-wide : tie.Need-add-wide
 add-wide c = search needs
 
--- src/lib.rt:166:34
 shared-slice-read-wide-2 : tie.Need-shared-slice-read-wide-2
 shared-slice-read-wide-2 c = search needs
 
--- src/lib.rt:166:29
 wide-requires-2 : tie.Need-wide-requires-2
 wide-requires-2 c κs = search needs
 
--- src/lib.rt:166:59
 add-wide-2 : tie.Need-add-wide-2
 add-wide-2 c = search needs
 
--- src/lib.rt:166:57
 shared-slice-read-wide-3 : tie.Need-shared-slice-read-wide-3
 shared-slice-read-wide-3 c = search needs
 
--- src/lib.rt:166:52
 wide-requires-3 : tie.Need-wide-requires-3
 wide-requires-3 c κs = search needs
 
--- src/lib.rt:166:83
 add-wide-3 : tie.Need-add-wide-3
 add-wide-3 c = search needs
 
--- src/lib.rt:166:81
 shared-slice-read-wide-4 : tie.Need-shared-slice-read-wide-4
 shared-slice-read-wide-4 c = search needs
 
--- src/lib.rt:166:76
 wide-requires-4 : tie.Need-wide-requires-4
 wide-requires-4 c κs = search needs
 
--- src/lib.rt:167:18
 add-wide-4 : tie.Need-add-wide-4
 add-wide-4 c = search needs
 
--- src/lib.rt:167:16
 shared-slice-read-wide-5 : tie.Need-shared-slice-read-wide-5
 shared-slice-read-wide-5 c = search needs
 
--- src/lib.rt:167:11
 wide-requires-5 : tie.Need-wide-requires-5
 wide-requires-5 c κs = search needs
 
--- src/lib.rt:167:42
 add-wide-5 : tie.Need-add-wide-5
 add-wide-5 c = search needs
 
--- src/lib.rt:167:40
 shared-slice-read-wide-6 : tie.Need-shared-slice-read-wide-6
 shared-slice-read-wide-6 c = search needs
 
--- src/lib.rt:167:35
 wide-requires-6 : tie.Need-wide-requires-6
 wide-requires-6 c κs = search needs
 
--- src/lib.rt:167:66
 add-wide-6 : tie.Need-add-wide-6
 add-wide-6 c = search needs
 
--- src/lib.rt:167:64
 shared-slice-read-wide-7 : tie.Need-shared-slice-read-wide-7
 shared-slice-read-wide-7 c = search needs
 
--- src/lib.rt:167:59
 wide-requires-7 : tie.Need-wide-requires-7
 wide-requires-7 c κs = search needs
 
--- src/lib.rt:167:90
 add-wide-7 : tie.Need-add-wide-7
 add-wide-7 c = search needs
 
--- src/lib.rt:167:88
 shared-slice-read-wide-8 : tie.Need-shared-slice-read-wide-8
 shared-slice-read-wide-8 c = search needs
 
--- src/lib.rt:167:83
 wide-requires-8 : tie.Need-wide-requires-8
 wide-requires-8 c κs = search needs
 
--- src/lib.rt:162:1
 returns : tie.Need-returns
 returns c =
     let each : (i : ℕ) → getD (c .before .before .before .before .before .before .before .before .before .before .before .before .before .before .before .before .before .args .s .now) i 0 < 256 = λ i. c .before .before .before .before .before .before .before .before .before .before .before .before .before .before .before .before .shared-slice-known .given i .fits in
