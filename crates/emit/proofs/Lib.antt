@@ -5,3 +5,6 @@ pub mod Listing
 pub mod Sharing
 pub mod Stripping
 pub mod Switching
+pub mod Nodes
+pub mod Growing
+pub mod Standing

@@ -13,7 +13,7 @@ use Rattle.written.specs.Put.{putList, putRoot, putStep, putTail, putChain}
 use Rattle.written.specs.Strip.{stripStep, stripChain}
 use Rattle.emit.specs.Ways.{rootIn, putStepIn, putChainIn, chainsIn}
 
-all-map : {X Y : Type 0} (put : Y → List ℕ) (f : X → Y) (xs : List X) → putAll (λ x. put (f x)) xs ≡ putAll put (map f xs)
+pub all-map : {X Y : Type 0} (put : Y → List ℕ) (f : X → Y) (xs : List X) → putAll (λ x. put (f x)) xs ≡ putAll put (map f xs)
 all-map put f [] = refl
 all-map put f (x ∷ xs) = ap (λ (l : List ℕ). put (f x) ++ l) (all-map put f xs)
 

@@ -3,3 +3,4 @@ pub mod Puts
 pub mod Ways
 pub mod Headers
 pub mod Shares
+pub mod Constants

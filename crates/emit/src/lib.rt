@@ -4,6 +4,7 @@
 pub mod base;
 pub mod callable;
 pub mod chain;
+pub mod constant;
 pub mod header;
 pub mod lists;
 mod places;
