@@ -1,16 +1,14 @@
 -- The loop over constants: the rows before the next one are put, and what is still to grow comes to what was to grow.
 use Prim.Native.Nat.{ℕ, zero, suc, _+_, _*_, _-_, _≤_, _<_, min}
 use mathlib.Core.Bool.{Bool, true, false}
-use mathlib.Core.Path.{_≡_, refl, sym, _∙_, ap}
-use mathlib.Core.List.{List, [], _∷_, _++_, map}
+use mathlib.Core.Path.{_≡_, refl}
+use mathlib.Core.List.{List, [], _∷_, map}
 use native.Mathlib.Omega.{arith}
 use borrow.Author.Tests.{ltb-true, ltb-false}
 use lib.Dec.{ltb}
-use lib.ListN.{length, take, drop, length-map}
-use Rattle.grammar.specs.declared.Span.{Span}
+use lib.ListN.{length, take, drop}
 use Rattle.grammar.specs.Combinators.{putAll}
 use Rattle.grammar.specs.Number.{shortest}
-use Rattle.format.specs.Artifact as A
 use Rattle.rows.specs.declared.constants.Keyed.{Keyed}
 use Rattle.rows.specs.Back.{keyedOf, recordsOf}
 use Rattle.rows.specs.Tree.{itemsOf, node, grow, overTexts}
@@ -20,8 +18,8 @@ use Rattle.emit.specs.declared.constant.Behind.{Behind}
 use Rattle.emit.specs.Puts.{Puts}
 use Rattle.emit.specs.Constants.{headBytes, footBytes, keysOf, keyBytes, Enough, rowsFrom, putItem, ItemsStand, PutsItems}
 use Rattle.emit.proofs.Laws.{puts-none, puts-same, puts-then, Onward, onward-start, onward-more, onward-done}
-use Rattle.emit.proofs.Listing.{between-more, between-none, between-all, counted}
-use Rattle.emit.proofs.Nodes.{enough-length, item-bytes, tops-all}
+use Rattle.emit.proofs.Listing.{between-more, between-none, between-all}
+use Rattle.emit.proofs.Nodes.{enough-length, item-bytes, tops-list}
 
 -- the constant of a row
 abbrev pub keyedAt : List ℕ → ℕ → Keyed
@@ -124,8 +122,6 @@ pub tops-puts : (levels tops : ℕ) {text t : List ℕ} {used : ℕ} {e m x : Li
     Puts (shortest tops) e at m mid → PutsItems text false levels tops t used 0 m mid x r →
     Puts (putList (putConstant levels) (map (λ tree. overTexts (clip text) levels (tree .1)) (grow levels tops (recordsOf 8 keyedOf used t) .trees))) e at x (r .place)
 tops-puts levels tops {text} {t} {used} stand p items =
-    let trees = grow levels tops (rowsFrom t used 0) .trees in
-    let made = map (λ (tree : Span × A.Constant Span levels). overTexts (clip text) levels (tree .1)) trees in
     rw (← between-all 8 keyedOf t used)
-    (counted (putConstant levels) tops made (length-map trees _ ∙ enough-length levels tops (rowsFrom t used 0) (stand .enough)) p
-    (puts-same (tops-all text levels trees) (items .puts)))
+    (puts-same (tops-list text levels tops (grow levels tops (rowsFrom t used 0) .trees) (enough-length levels tops (rowsFrom t used 0) (stand .enough)))
+    (puts-then p (items .puts)))

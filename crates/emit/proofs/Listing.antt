@@ -1,11 +1,10 @@
 -- The loop over the rows of a table, for any record, width and way of putting it: what is still to put comes to what was to put.
 use Prim.Native.Nat.{ℕ, zero, suc, _+_, _*_, _-_, _≤_, _<_}
-use mathlib.Core.Path.{_≡_, refl, sym, _∙_, ap, subst}
-use mathlib.Core.List.{List, [], _∷_, _++_}
-use native.Mathlib.Nat.{add-zero, add-suc, add-mul, one-mul, zero-mul, le-trans, mul-le-mul-right}
-use native.Mathlib.Numerals.{add-one}
+use mathlib.Core.Path.{_≡_, refl, sym, _∙_, ap}
+use mathlib.Core.List.{List, [], _∷_, _++_, map}
+use native.Mathlib.Nat.{add-mul, one-mul, zero-mul, le-trans, mul-le-mul-right}
 use native.Mathlib.Omega.{arith}
-use lib.ListN.{length, getD, take, drop}
+use lib.ListN.{length, getD, take, drop, length-map}
 use lib.Seq.{drop-cons, drop-drop}
 use Rattle.grammar.specs.Combinators.{putAll}
 use Rattle.grammar.specs.Number.{shortest}
@@ -109,3 +108,12 @@ module _ {X : Type 0} {put : X → List ℕ} {w : ℕ} {of : List ℕ → X} {t 
   pub listed-all : (n : ℕ) → Puts (shortest n) e at m mid → Listing put w of t (putAll put (recordsOf w of n t)) m mid j n x next → n ≤ j →
       Puts (putList put (recordsOf w of n t)) e at x next
   listed-all n p g h = counted put n (recordsOf w of n t) (length-records w of n t) p (listing-done g h)
+
+-- ── records that are made of others ──
+
+all-map : {X Y : Type 0} (put : Y → List ℕ) (f : X → Y) (xs : List X) → putAll (λ x. put (f x)) xs ≡ putAll put (map f xs)
+all-map put f [] = refl
+all-map put f (x ∷ xs) = ap (λ (l : List ℕ). put (f x) ++ l) (all-map put f xs)
+
+pub list-map : {X Y : Type 0} (put : Y → List ℕ) (f : X → Y) (xs : List X) → putList (λ x. put (f x)) xs ≡ putList put (map f xs)
+list-map put f xs = rw (length-map xs f, all-map put f xs)

@@ -1,10 +1,10 @@
 -- A constant's bytes: its head, its items' bytes and what stands behind them make those of its tree.
 use Prim.Native.Nat.{ℕ, zero, suc}
 use mathlib.Core.Bool.{Bool, true, false}
-use mathlib.Core.Path.{_≡_, refl, sym, _∙_, ap}
+use mathlib.Core.Path.{_≡_, refl, _∙_, ap}
 use mathlib.Core.List.{List, [], _∷_, _++_, append-assoc, append-nil, map}
 use native.Mathlib.Omega.{arith}
-use lib.ListN.{length, length-map}
+use lib.ListN.{length}
 use Rattle.grammar.specs.declared.Span.{Span}
 use Rattle.grammar.specs.Combinators.{putAll}
 use Rattle.grammar.specs.Number.{shortest}
@@ -15,6 +15,7 @@ use Rattle.rows.specs.Tree.{itemsOf, kind, value, node, grow, overTexts}
 use Rattle.written.specs.Put.{putBytes, putList, putKind, putConstant}
 use Rattle.model.specs.Lent.{clip}
 use Rattle.emit.specs.Constants.{headBytes, footBytes, keysOf, keyBytes, Enough, putItem}
+use Rattle.emit.proofs.Listing.{list-map}
 
 -- as many constants grow as stand there
 pub enough-length : (levels n : ℕ) (rows : List Keyed) → Enough levels n rows → length (grow levels n rows .trees) ≡ n
@@ -40,14 +41,10 @@ module _ (text : List ℕ) (levels : ℕ) where
   bytes trees = map (overTexts (clip text) levels) (map value trees)
 
   -- items without keys, and behind their count
-  plain-all : (trees : List Tree) → putAll (putItem text false levels) trees ≡ putAll (putConstant levels) (bytes trees)
-  plain-all [] = refl
-  plain-all (x ∷ xs) = ap (λ (l : List ℕ). putConstant levels (overTexts (clip text) levels (x .1)) ++ l) (plain-all xs)
-
   plain-list : (n : ℕ) (trees : List Tree) → length trees ≡ n → shortest n ++ putAll (putItem text false levels) trees ≡ putList (putConstant levels) (bytes trees)
   plain-list n trees h =
-      let counts : length (bytes trees) ≡ n = length-map (map value trees) (overTexts (clip text) levels) ∙ length-map trees value ∙ h in
-      rw (counts, plain-all trees)
+      rw (← h)
+      (list-map (λ c. putConstant levels (overTexts (clip text) levels c)) value trees ∙ list-map (putConstant levels) (overTexts (clip text) levels) (map value trees))
 
   -- a map's entries
   abbrev entries : List Tree → List (List ℕ × A.Constant (List ℕ) levels)
@@ -56,15 +53,8 @@ module _ (text : List ℕ) (levels : ℕ) where
   abbrev putEntry : List ℕ × A.Constant (List ℕ) levels → List ℕ
   putEntry entry = putBytes (entry .0) ++ putConstant levels (entry .1)
 
-  keyed-all : (trees : List Tree) → putAll (putItem text true levels) trees ≡ putAll putEntry (entries trees)
-  keyed-all [] = refl
-  keyed-all (x ∷ xs) =
-      ap (λ (l : List ℕ). (putBytes (clip text (x .0)) ++ putConstant levels (overTexts (clip text) levels (x .1))) ++ l) (keyed-all xs)
-
   keyed-list : (n : ℕ) (trees : List Tree) → length trees ≡ n → shortest n ++ putAll (putItem text true levels) trees ≡ putList putEntry (entries trees)
-  keyed-list n trees h =
-      let counts : length (entries trees) ≡ n = length-map trees (λ entry. (clip text (entry .0), overTexts (clip text) levels (entry .1))) ∙ h in
-      rw (counts, keyed-all trees)
+  keyed-list n trees h = rw (← h) (list-map putEntry (λ entry. (clip text (entry .0), overTexts (clip text) levels (entry .1))) trees)
 
   abbrev made : Constant → List Tree → List ℕ
   made c trees = headBytes text c ++ (putAll (putItem text (keysOf c) levels) trees ++ footBytes c)
@@ -96,7 +86,6 @@ module _ (text : List ℕ) (levels : ℕ) where
   item-bytes keys key c trees h = ap (λ (l : List ℕ). keyBytes text keys key ++ l) (node-bytes c trees h)
 
   -- the top constants
-  pub tops-all : (trees : List Tree) →
-      putAll (putItem text false levels) trees ≡ putAll (putConstant levels) (map (λ tree. overTexts (clip text) levels (tree .1)) trees)
-  tops-all [] = refl
-  tops-all (x ∷ xs) = ap (λ (l : List ℕ). putConstant levels (overTexts (clip text) levels (x .1)) ++ l) (tops-all xs)
+  pub tops-list : (n : ℕ) (trees : List Tree) → length trees ≡ n →
+      shortest n ++ putAll (putItem text false levels) trees ≡ putList (putConstant levels) (map (λ tree. overTexts (clip text) levels (tree .1)) trees)
+  tops-list n trees h = rw (← h) (list-map (putConstant levels) (λ tree. overTexts (clip text) levels (tree .1)) trees)

@@ -1,7 +1,7 @@
 -- The loop over records that own shares of an items' table.
 use Prim.Native.Nat.{ℕ, zero, suc, _+_, _*_, _-_, _≤_, _<_}
-use mathlib.Core.Path.{_≡_, refl, sym, _∙_, ap, subst}
-use mathlib.Core.List.{List, [], _∷_, _++_}
+use mathlib.Core.Path.{_≡_, refl, sym, _∙_, ap}
+use mathlib.Core.List.{List, [], _∷_}
 use native.Mathlib.Nat.{add-comm, add-mul, one-mul, zero-mul, suc-mul, le-trans, mul-le-mul-right}
 use native.Mathlib.Omega.{arith}
 use lib.ListN.{length, take, drop}
@@ -15,7 +15,7 @@ use Rattle.model.specs.Rules.{total}
 use Rattle.model.specs.Tables.{shared}
 use Rattle.emit.specs.Puts.{Puts}
 use Rattle.emit.specs.Shares.{owned, SharesFit, sharesOf}
-use Rattle.emit.proofs.Laws.{puts-then, Onward, onward-none, onward-more, onward-done}
+use Rattle.emit.proofs.Laws.{Onward, onward-none, onward-more, onward-done}
 use Rattle.emit.proofs.Listing.{between, between-more, between-none, between-all, length-records, counted}
 
 -- ── shares of the items ──

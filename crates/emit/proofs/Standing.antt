@@ -1,19 +1,18 @@
 -- Tables of constants that rules 1, 5 and 6 have found sound: as many constants stand there as are owed, with all that they own.
-use Prim.Native.Nat.{ℕ, zero, suc, _+_, _*_, _-_, _≤_}
+use Prim.Native.Nat.{ℕ, zero, suc, _+_, _-_, _≤_}
 use mathlib.Core.Bool.{Bool, true, false, _&&_, _||_}
-use mathlib.Core.Path.{_≡_, refl, sym, _∙_, ap}
+use mathlib.Core.Path.{_≡_, refl}
 use mathlib.Core.List.{List, [], _∷_, map}
-use native.Mathlib.Nat.{zero-add, suc-add, add-zero, add-assoc}
+use native.Mathlib.Nat.{zero-add, suc-add, add-zero}
 use native.Mathlib.Omega.{arith}
 use borrow.Author.Tests.{leb-true, eqb-true}
 use lib.Dec.{leb, eqb}
-use lib.ListN.{length}
 use Rattle.rows.specs.Back.{word, cut, keyedOf, constantOf}
 use Rattle.rows.specs.Tree.{itemsOf, grow}
 use Rattle.format.specs.Artifact as A
 use Rattle.model.specs.Lent.{every}
 use Rattle.model.specs.Rules.{tag, owns, exactly, knownConstant, Behind, behind, tooDeep, andThen, within, notTooDeep}
-use Rattle.emit.specs.Constants.{Enough, rowsFrom, ItemsStand, ConstantsFit}
+use Rattle.emit.specs.Constants.{Enough, ItemsStand, ConstantsFit}
 use Rattle.emit.proofs.Listing.{between-all}
 
 -- ── a known row owns as many items as its constant says ──
