@@ -2,3 +2,4 @@
 pub mod LowFirst
 pub mod Texts
 pub mod Ends
+pub mod Three

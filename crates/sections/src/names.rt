@@ -1,10 +1,12 @@
 // Names: their ends into a table, and the blob that the ends cut (section 3 of document 01).
 ghost use mathlib.Core.Path.{_≡_};
+ghost use Prim.Native.Nat.{_+_, _-_, _*_, _≤_, _<_};
 ghost use lib.ListN.{length};
 ghost use Rattle.grammar.specs.Combinators.{enough, textAt};
 ghost use Rattle.grammar.specs.Number as numbers;
 ghost use Rattle.tables.specs.Table.{records};
 ghost use Rattle.format.specs.File as definition;
+ghost use Rattle.varint.specs.Answers.{indexIs};
 ghost use Rattle.sections.specs.Names.{joined, LeftEnds, namesCounted, namesBlob, namesJudged, namesIs, LeftNames};
 use fields::ReadText;
 use grammar::Cursor;
@@ -87,7 +89,7 @@ fn end_rows(s: &[u8], c: Cursor, n: u64, t: &mut [u64]) -> ReadEnds
         if t.len() <= used {
             return ReadEnds::Refused(Refusal::Full { table: 1 });
         }
-        match varint::index(s, at) {
+        match end(s, at) {
             ReadIndex::Got { value, next } => {
                 t[used] = value as u64;
                 ends = join(ends, value);
@@ -105,6 +107,51 @@ fn end_rows(s: &[u8], c: Cursor, n: u64, t: &mut [u64]) -> ReadEnds
         ends,
         next: at,
     }
+}
+
+// An end. Those of a long blob take three bytes each, so where one is over is foreseen: read byte by byte, none waits for the one
+// before it, as it would where eight bytes are taken as a word.
+fn end(s: &[u8], c: Cursor) -> ReadIndex
+    ensures { λ r. ⌜ numbers.index (now (s .entry)) c ≡ indexIs r ⌝ }
+{
+    let at = c.at;
+    if s.len() <= at {
+        return varint::index(s, c);
+    }
+    if s.len() - at < 3 {
+        return varint::index(s, c);
+    }
+    let low = s[at];
+    let mid = s[at + 1];
+    let top = s[at + 2];
+    if low < 128 {
+        return varint::index(s, c);
+    }
+    if mid < 128 {
+        return varint::index(s, c);
+    }
+    if 128 <= top {
+        return varint::index(s, c);
+    }
+    ReadIndex::Got {
+        value: three(low, mid, top),
+        next: c.advance(3),
+    }
+}
+
+fn three(low: u8, mid: u8, top: u8) -> u32
+    requires { ⌜ 128 ≤ low ⌝ }
+    requires { ⌜ 128 ≤ mid ⌝ }
+    requires { ⌜ top < 128 ⌝ }
+    ensures { λ r. ⌜ r ≡ low - 128 + (mid - 128) * 128 + top * 16384 ⌝ }
+{
+    wide(low - 128) + wide(mid - 128) * 128 + wide(top) * 16384
+}
+
+fn wide(b: u8) -> u32
+    ensures { λ r. ⌜ r ≡ b ⌝ }
+{
+    b as u32
 }
 
 // One end more.

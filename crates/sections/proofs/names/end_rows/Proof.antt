@@ -21,8 +21,8 @@ same-length c = c .before .before .loop .inv .same
 returns : tie.Need-returns Inv-loop μ-loop
 returns c = ends-refused (ending-full (c .before .before .loop .inv) (c .before .loop-test .taken) (c .if1 .taken))
 
-index-requires : tie.Need-index-requires Inv-loop μ-loop
-index-requires c κs = search needs
+end-requires : tie.Need-end-requires Inv-loop μ-loop
+end-requires c κs = search needs
 
 enum-known-value : tie.Need-enum-known-value Inv-loop μ-loop
 enum-known-value c = search needs
@@ -46,7 +46,7 @@ same-length-2 : tie.Need-same-length-2 Inv-loop μ-loop
 same-length-2 c = c .before .before .before .before .before .before .loop .inv .same
 
 returns-2 : tie.Need-returns-2 Inv-loop μ-loop
-returns-2 c = ends-refused (ending-refused (c .before .before .before .before .before .before .loop .inv) (c .before .before .before .before .before .loop-test .taken) (c .before .before .before .before .if1 .left) (c .before .before .before .index .ensures ∙ rw (c .before .r .given .1)))
+returns-2 c = ends-refused (ending-refused (c .before .before .before .before .before .before .loop .inv) (c .before .before .before .before .before .loop-test .taken) (c .before .before .before .before .if1 .left) (c .before .before .before .end .ensures ∙ rw (c .before .r .given .1)))
 
 add-used : tie.Need-add-used Inv-loop μ-loop
 add-used c = omega (arith, c .before .before .before .before .before .before .before .loop .inv .same, c .before .before .before .before .before .before .before .before .before .before .good)
@@ -58,7 +58,7 @@ loop-less : tie.Need-loop-less Inv-loop μ-loop
 loop-less c = omega arith
 
 loop-again : tie.Need-loop-again Inv-loop μ-loop
-loop-again c = rw (c .join .ensures) (ending-more (c .before .before .before .before .before .before .before .loop .inv) (c .before .before .before .before .before .before .loop-test .taken) (c .before .before .before .before .before .if1 .left) (rw (c .before .before .value .given .1) at (c .before .before .before .before .index .ensures)))
+loop-again c = rw (c .join .ensures) (ending-more (c .before .before .before .before .before .before .before .loop .inv) (c .before .before .before .before .before .before .loop-test .taken) (c .before .before .before .before .before .if1 .left) (rw (c .before .before .value .given .1) at (c .before .before .before .before .end .ensures)))
 
 same-length-3 : tie.Need-same-length-3 Inv-loop μ-loop
 same-length-3 c = c .before .loop .inv .same
@@ -75,7 +75,7 @@ end-rows-spec =
     loop-holds
     same-length
     returns
-    index-requires
+    end-requires
     enum-known-value
     cast-t
     mul-t
