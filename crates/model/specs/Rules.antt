@@ -227,6 +227,7 @@ abbrev pub soundChain : List ℕ → Bool
 soundChain row = soundRoot row && (bits 16 (word row 5) && (not (eqb (word row 7) 3) || bits 32 (word row 8)))
 
 -- steps: tag, flags, operand, name, getter, setter, argument count, line, column, bracket line, bracket column
+-- (a tag that is not known is refused by rule 5, before)
 abbrev pub soundByTag : List ℕ → Bool
 soundByTag row =
     if eqb (tag row) 1 then bits 16 (word row 2) && soundPosition (word row 9) (word row 10)
