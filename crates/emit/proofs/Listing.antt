@@ -4,36 +4,14 @@ use mathlib.Core.Path.{_≡_, refl, sym, _∙_, ap}
 use mathlib.Core.List.{List, [], _∷_, _++_, map}
 use native.Mathlib.Nat.{add-mul, one-mul, zero-mul, le-trans, mul-le-mul-right}
 use native.Mathlib.Omega.{arith}
-use lib.ListN.{length, getD, take, drop, length-map}
-use lib.Seq.{drop-cons, drop-drop}
+use lib.ListN.{length, take, drop, length-map}
+use lib.Seq.{drop-drop}
 use Rattle.grammar.specs.Combinators.{putAll}
 use Rattle.grammar.specs.Number.{shortest}
 use Rattle.rows.specs.Back.{recordsOf}
 use Rattle.written.specs.Put.{putList}
 use Rattle.emit.specs.Puts.{Puts}
 use Rattle.emit.proofs.Laws.{puts-then, Onward, onward-none, onward-more, onward-done}
-
--- ── the words of a row, read one by one ──
-
-abbrev pub wordsFrom : ℕ → ℕ → ℕ → List ℕ → List ℕ
-wordsFrom p i zero t = []
-wordsFrom p i (suc n) t = getD t (p + i) 0 ∷ wordsFrom p (suc i) n t
-
-from-row : (p i n : ℕ) (t : List ℕ) → p + i + n ≤ length t → take n (drop (p + i) t) ≡ wordsFrom p i n t
-from-row p i zero t h = refl
-from-row p i (suc n) t h =
-    let inside : p + i < length t = omega arith in
-    let rest : take n (drop (p + suc i) t) ≡ wordsFrom p (suc i) n t = from-row p (suc i) n t (omega arith) in
-    let next : suc (p + i) ≡ p + suc i = omega arith in
-    rw (drop-cons t (p + i) 0 inside, next) (ap (λ (l : List ℕ). getD t (p + i) 0 ∷ l) rest)
-
--- n + 1 words from a word on
-pub row-words : (n p : ℕ) (t : List ℕ) → p + suc n ≤ length t → getD t p 0 ∷ wordsFrom p 1 n t ≡ take (suc n) (drop p t)
-row-words n p t h =
-    let inside : p < length t = omega arith in
-    let rest : take n (drop (p + 1) t) ≡ wordsFrom p 1 n t = from-row p 1 n t (omega arith) in
-    let next : suc p ≡ p + 1 = omega arith in
-    sym (rw (drop-cons t p 0 inside, next) (ap (λ (l : List ℕ). getD t p 0 ∷ l) rest))
 
 -- ── the rows from one place to another ──
 

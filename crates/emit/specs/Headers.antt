@@ -4,7 +4,7 @@ use mathlib.Core.List.{List, [], _∷_, _++_}
 use Rattle.grammar.specs.Combinators.{lowBytes}
 use Rattle.format.specs.Artifact as A
 use Rattle.format.specs.File.{magic}
-use Rattle.reading.specs.declared.answer.Header.{Header}
+use Rattle.format.specs.declared.answer.Header.{Header}
 
 abbrev pub headerOf : Header → A.Header
 headerOf h = record { caps = h .caps; idLow = h .low; idHigh = h .high }

@@ -6,7 +6,7 @@ use crate::base::byte;
 use crate::base::copied;
 use crate::base::low_bytes;
 use format::tags::Header as Front;
-use reading::answer::Header;
+use format::answer::Header;
 
 // All in front of caps.
 fn front(out: &mut [u8], at: usize) -> usize

@@ -3,7 +3,7 @@ use Prim.Native.Nat.{ℕ}
 use mathlib.Core.Path.{_≡_, _∙_, ap, refl}
 use mathlib.Core.List.{List}
 use lib.ListN.{getD}
-use Rattle.reading.specs.declared.answer.Answer.{Answer}
+use Rattle.format.specs.declared.answer.Answer.{Answer}
 use Rattle.reading.specs.Answer.{Answered}
 use Rattle.grain.specs.Words.{wordsOf, numberIn, Leaves}
 

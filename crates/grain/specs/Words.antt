@@ -6,8 +6,8 @@ use lib.ListN.{replicate}
 use Rattle.refusal.specs.declared.Row.{Row}
 use Rattle.refusal.specs.Numbers.{rowOf}
 use Rattle.format.specs.File as definition
-use Rattle.reading.specs.declared.answer.Artifact.{Artifact}
-use Rattle.reading.specs.declared.answer.Answer.{Answer}
+use Rattle.format.specs.declared.answer.Artifact.{Artifact}
+use Rattle.format.specs.declared.answer.Answer.{Answer}
 use Rattle.reading.specs.Answer.{answerOf, placesOf, tablesAfter}
 
 -- 0 number, 1 first value, 2 second value;

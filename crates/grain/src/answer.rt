@@ -1,8 +1,8 @@
 // The reader's answer as the 32 words that C is lent: an enum cannot be handed out.
 ghost use mathlib.Core.Path.{_≡_};
 ghost use Rattle.grain.specs.Words.{acceptedWords, refusedWords, wordsOf};
-use reading::answer::Answer;
-use reading::answer::Artifact;
+use format::answer::Answer;
+use format::answer::Artifact;
 use refusal::Row;
 
 pub fn words(a: Answer) -> [u64; 32]

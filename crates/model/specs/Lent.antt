@@ -5,7 +5,7 @@ use mathlib.Core.Bool.{Bool, true, _&&_}
 use mathlib.Core.List.{List, [], _∷_}
 use lib.ListN.{take, drop}
 use Rattle.grammar.specs.declared.Span.{Span}
-use Rattle.reading.specs.declared.answer.Artifact.{Artifact}
+use Rattle.format.specs.declared.answer.Artifact.{Artifact}
 use Rattle.rows.specs.Back.{cut}
 
 -- `numbersFit` says that the numbers outside the tables fit their kinds: those of a struct do, and a caller that has words says it

@@ -14,7 +14,7 @@ use Rattle.pos.specs.declared.Checked.{Checked}
 use Rattle.pos.specs.Table.{checked}
 use Rattle.format.specs.File.{rising, lastEnd, scalar}
 use Rattle.format.specs.Artifact.{levels}
-use Rattle.reading.specs.declared.answer.Used.{Used}
+use Rattle.format.specs.declared.answer.Used.{Used}
 use Rattle.rows.specs.Back.{cut, word}
 use Rattle.model.specs.Lent.{Lent, constantRows, caseRows, clip, every}
 

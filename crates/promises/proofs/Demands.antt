@@ -13,8 +13,8 @@ use Rattle.format.specs.Rows.{tablesOf}
 use Rattle.format.proofs.Torn as torn
 use Rattle.rows.specs.Given.{Bytes}
 use Rattle.stored.proofs.Stored.{read-back}
-use Rattle.reading.specs.declared.answer.Artifact.{Artifact}
-use Rattle.reading.specs.declared.answer.Answer.{Answer}
+use Rattle.format.specs.declared.answer.Artifact.{Artifact}
+use Rattle.format.specs.declared.answer.Answer.{Answer}
 use Rattle.reading.specs.Answer.{placesOf, outside, answerOf, tablesAfter, Answered}
 use Rattle.promises.specs.Back.{TablesGive}
 use Rattle.promises.specs.Words.{Call, SameTables, RefusedWith, AcceptedAs, zeros}

@@ -9,8 +9,8 @@ use Rattle.grammar.specs.Outcome.{got}
 use Rattle.format.specs.Artifact as A
 use Rattle.format.specs.File as definition
 use Rattle.format.specs.Rows.{tablesOf}
-use Rattle.reading.specs.declared.answer.Answer.{Answer}
-use Rattle.reading.specs.declared.answer.Artifact.{Artifact}
+use Rattle.format.specs.declared.answer.Answer.{Answer}
+use Rattle.format.specs.declared.answer.Artifact.{Artifact}
 use Rattle.reading.specs.Answer.{placesOf, outside, Answered}
 
 -- one call of `reading::read`: what it was lent, what it answered and what it left, as its contract says

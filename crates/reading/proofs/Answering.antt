@@ -34,8 +34,8 @@ use Rattle.format.specs.declared.records.Function.{Function}
 use Rattle.format.specs.Artifact as A
 use Rattle.format.specs.File as file
 use Rattle.format.specs.Rows.{tablesOf, tokenRow, assignRow, chainRow, stepRow, siteRow, inputRow, functionRow, parameterRow}
-use Rattle.reading.specs.declared.answer.Answer.{Answer}
-use Rattle.reading.specs.declared.answer.Artifact.{Artifact}
+use Rattle.format.specs.declared.answer.Answer.{Answer}
+use Rattle.format.specs.declared.answer.Artifact.{Artifact}
 use Rattle.reading.specs.declared.steps.Place.{Place}
 use Rattle.reading.specs.Answer.{placesOf, outside, answerOf, filledAll, tablesAfter, Answered}
 use Rattle.reading.specs.Places.{placeOf, valueOr, topsOf, noHeader, noNames, noCounts, noText, noChunk, noUsed, noCases, usedOf, artifactOf}

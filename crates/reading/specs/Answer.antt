@@ -10,8 +10,8 @@ use Rattle.format.specs.Artifact as A
 use Rattle.format.specs.File as definition
 use Rattle.format.specs.Rows.{tablesOf}
 use Rattle.reading.specs.Places.{headerOf}
-use Rattle.reading.specs.declared.answer.Artifact.{Artifact}
-use Rattle.reading.specs.declared.answer.Answer.{Answer}
+use Rattle.format.specs.declared.answer.Artifact.{Artifact}
+use Rattle.format.specs.declared.answer.Answer.{Answer}
 
 -- the whole rows of a table, by the words of a row
 abbrev pub places : ℕ → List ℕ → ℕ

@@ -9,9 +9,9 @@ use Rattle.format.specs.Artifact as A
 use Rattle.constants.specs.declared.ReadConstants.{ReadConstants}
 use Rattle.constants.specs.Kept.{Counts, readIs}
 use Rattle.sections.specs.Names.{Named}
-use Rattle.reading.specs.declared.answer.Header.{Header}
-use Rattle.reading.specs.declared.answer.Used.{Used as AllUsed}
-use Rattle.reading.specs.declared.answer.Artifact.{Artifact}
+use Rattle.format.specs.declared.answer.Header.{Header}
+use Rattle.format.specs.declared.answer.Used.{Used as AllUsed}
+use Rattle.format.specs.declared.answer.Artifact.{Artifact}
 use Rattle.reading.specs.declared.steps.Place.{Place}
 
 abbrev pub placeOf : {A : Type 0} → Outcome A → Place

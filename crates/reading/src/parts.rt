@@ -8,7 +8,7 @@ ghost use Rattle.switches.specs.Answers.{switchedIs};
 ghost use Rattle.sections.specs.Answers.{headerIs};
 ghost use Rattle.sections.specs.Names.{namesIs};
 ghost use Rattle.reading.specs.Places.{valueOr, topsOf, noHeader, noNames, noCounts, noText, noChunk, noUsed, noCases, headerOf};
-use crate::answer::Header;
+use format::answer::Header;
 use constants::ReadConstants;
 use fields::ReadChunk;
 use fields::ReadText;

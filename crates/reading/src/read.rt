@@ -1,7 +1,7 @@
 // The whole artifact: the sections in file order, then the end of the file.
 ghost use mathlib.Core.List.{[], _∷_};
 ghost use Rattle.reading.specs.Answer.{Answered};
-use crate::answer::Answer;
+use format::answer::Answer;
 use crate::collect;
 use crate::steps as section;
 use crate::steps::Place;

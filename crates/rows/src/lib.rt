@@ -6,6 +6,7 @@ pub mod constants;
 pub mod customs;
 pub mod functions;
 pub mod names;
+pub mod row;
 pub mod steps;
 pub mod switches;
 pub mod tokens;

@@ -6,7 +6,7 @@ use lib.ListN.{getD}
 use lib.Dec.{leb, ltb, eqb}
 use Rattle.grammar.specs.declared.Span.{Span}
 use Rattle.grammar.specs.Combinators.{if_then_else_}
-use Rattle.reading.specs.declared.answer.Used.{Used}
+use Rattle.format.specs.declared.answer.Used.{Used}
 use Rattle.format.specs.File.{scalar}
 use Rattle.rows.specs.Back.{word}
 use Rattle.model.specs.Rules.{tag, lies, isText, spanAt, named, texted, knownConstant, knownChain, knownStep, knownFunction, soundAssign, soundChain, soundStep, soundCase, soundFunction}

@@ -5,7 +5,7 @@ ghost use lib.Dec.{leb};
 ghost use mathlib.Core.Bool.{_&&_};
 ghost use Rattle.rules.specs.Keeps.{switchCounts, countsOf};
 use crate::words::both;
-use reading::answer::Used;
+use format::answer::Used;
 
 pub fn fits(used: usize, width: usize, words: usize) -> bool
     requires { ⌜ 0 < width ⌝ }

@@ -7,7 +7,7 @@ ghost use Rattle.model.specs.Lent.{every};
 ghost use Rattle.model.specs.Rules as definition;
 ghost use Rattle.rules.specs.Keeps as keeps;
 use crate::records;
-use crate::row;
+use rows::row;
 use crate::texts;
 
 pub fn constants(rule: u8, t: &[u64], used: usize, text: &[u8]) -> bool

@@ -5,7 +5,6 @@ pub mod each;
 pub mod names;
 pub mod positions;
 pub mod records;
-pub mod row;
 pub mod shares;
 pub mod texts;
 pub mod trees;

@@ -10,7 +10,7 @@ ghost use Rattle.model.specs.Rules as definition;
 ghost use Rattle.rules.specs.Keeps as keeps;
 ghost use Rattle.rules.specs.From.{rowsFrom};
 ghost use Rattle.rules.specs.Walks.{Walk, entriesAt, reachedIs};
-use crate::row;
+use rows::row;
 use crate::texts;
 use crate::words::both;
 use crate::words::either;

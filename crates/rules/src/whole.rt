@@ -7,7 +7,7 @@ use crate::each;
 use crate::shares::shares_use;
 use crate::trees;
 use crate::words::both;
-use reading::answer::Used;
+use format::answer::Used;
 
 // 1. shares use their tables exactly
 pub fn shares_fit(
