@@ -11,7 +11,7 @@ use Rattle.rules.proofs.Depth.{reach-none, reach-deep, Reaching, reachi
 use Rattle.rules.proofs.trees.reach.Reads as reach
 use Rattle.rules.proofs.trees.reach.Kinds as reach-kinds
 use Rattle.rules.proofs.trees.+reach.Lts-reach as reach-lts
-use Rattle.rules.proofs.row.of_eight.Reads as of-eight-reads
+use Rattle.rows.proofs.row.of_eight.Reads as of-eight-reads
 use Rattle.rules.proofs.trees.owns.Reads as owns-reads
 use Rattle.rules.proofs.trees.+reach.{statement}
 use Rattle.rules.proofs.trees.+reach.Tie.{close}
