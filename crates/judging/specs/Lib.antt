@@ -1,0 +1,2 @@
+-- What the rules that were tested before say.
+pub mod Standing

@@ -1,0 +1,3 @@
+-- What the rules say of the tables that are put, and the bytes in two halves.
+pub mod Ready
+pub mod Halves

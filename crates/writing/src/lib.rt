@@ -1,0 +1,4 @@
+// The writer of a whole artifact (format/write.rs): the lowest broken rule first, then the room, then the bytes.
+
+pub mod lay;
+pub mod write;
