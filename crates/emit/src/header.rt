@@ -5,8 +5,8 @@ ghost use Rattle.emit.specs.Headers.{headerOf, headerFront};
 use crate::base::byte;
 use crate::base::copied;
 use crate::base::low_bytes;
-use format::tags::Header as Front;
 use format::answer::Header;
+use format::tags::Header as Front;
 
 // All in front of caps.
 fn front(out: &mut [u8], at: usize) -> usize

@@ -1,3 +1,4 @@
--- The first of ten tests that fails, and rows that are there.
-pub mod First
+-- Tests that hold, rows that are there, and the first of ten tests that fails.
+pub mod Kept
 pub mod Rows
+pub mod First

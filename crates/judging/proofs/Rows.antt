@@ -1,58 +1,59 @@
 -- Counts that fit say that the rows are there.
-use Prim.Native.Nat.{ℕ, _*_, _/_, _≤_}
-use mathlib.Core.Path.{_≡_, refl}
-use mathlib.Core.Bool.{Bool, true, false, _&&_}
+use Prim.Native.Nat.{ℕ, _+_, _*_, _/_, _≤_}
+use mathlib.Core.Path.{_≡_}
+use mathlib.Core.Bool.{true, _&&_}
 use native.Mathlib.Nat.{mul-one}
-use native.Mathlib.Omega.{arith}
 use borrow.Author.Tests.{leb-true}
 use lib.ListN.{length}
 use lib.Dec.{leb}
 use Rattle.tables.proofs.Fitting.{rows-fit}
 use Rattle.model.specs.Lent.{Lent}
-use Rattle.model.specs.Rules.{countsFit}
-use Rattle.judging.specs.Standing.{RowsStand}
-
-pub left-holds : (a b : Bool) → a && b ≡ true → a ≡ true
-left-holds true b h = refl
-left-holds false b h = h
-
-pub right-holds : (a b : Bool) → a && b ≡ true → b ≡ true
-right-holds true b h = h
-right-holds false b h = absurd (no h)
-  where
-    no : _≡_ {A = Bool} false true → ⊥
-    no z = let y : _≡_ {A = ℕ} 0 1 = cc in omega arith
+use Rattle.model.specs.Rules.{fits, countsFit, lies, outsideLies}
+use Rattle.judging.specs.Standing.{RowsStand, FiveHold}
+use Rattle.judging.proofs.Kept.{both}
 
 stand : (used width size : ℕ) → leb used (size / width) ≡ true → used * width ≤ size
 stand used width size h = rows-fit width used size (leb-true _ _ h)
 
 -- the thirteen tables, as the counts are joined
 pub rows-stand : (m : Lent) → countsFit m ≡ true → RowsStand m
-rows-stand m h =
-    let first = left-holds _ _ h in
-    let others = right-holds _ _ h in
-    let second = left-holds _ _ others in
-    let third = right-holds _ _ others in
-    let front = left-holds _ _ first in
-    let tokens = right-holds _ _ first in
-    let chains = left-holds _ _ second in
-    let switches = right-holds _ _ second in
-    let items = right-holds _ _ switches in
-    let customs = left-holds _ _ third in
-    let functions = right-holds _ _ third in
+rows-stand m e =
+    let u = m .outside .used in
+    let front = both ((fits (u .names) 1 (m .ends) && fits (u .constants) 8 (m .constants))
+    && (fits (u .tokens) 2 (m .tokens) && fits (u .assigns) 6 (m .assigns))) _ e in
+    let pools = both (fits (u .names) 1 (m .ends) && fits (u .constants) 8 (m .constants)) _ (front .first) in
+    let names = both (fits (u .names) 1 (m .ends)) _ (pools .first) in
+    let tokens = both (fits (u .tokens) 2 (m .tokens)) _ (pools .second) in
+    let sites = both ((fits (u .chains) 9 (m .chains) && fits (u .steps) 11 (m .steps))
+    && (fits (u .switches) 3 (m .switches) && (fits (u .cases) 2 (m .cases) && fits (u .ranges) 4 (m .ranges)))) _ (front .second) in
+    let jumps = both (fits (u .chains) 9 (m .chains) && fits (u .steps) 11 (m .steps)) _ (sites .first) in
+    let chains = both (fits (u .chains) 9 (m .chains)) _ (jumps .first) in
+    let switches = both (fits (u .switches) 3 (m .switches)) _ (jumps .second) in
+    let cases = both (fits (u .cases) 2 (m .cases)) _ (switches .second) in
+    let calls = both (fits (u .customs) 3 (m .customs) && fits (u .inputs) 5 (m .inputs)) _ (sites .second) in
+    let customs = both (fits (u .customs) 3 (m .customs)) _ (calls .first) in
+    let functions = both (fits (u .functions) 7 (m .functions)) _ (calls .second) in
     record {
-      counts = h;
-      ends = rw (mul-one (m .outside .used .names)) at (stand _ 1 _ (left-holds _ _ front));
-      constants = stand _ 8 _ (right-holds _ _ front);
-      tokens = stand _ 2 _ (left-holds _ _ tokens);
-      assigns = stand _ 6 _ (right-holds _ _ tokens);
-      chains = stand _ 9 _ (left-holds _ _ chains);
-      steps = stand _ 11 _ (right-holds _ _ chains);
-      switches = stand _ 3 _ (left-holds _ _ switches);
-      cases = stand _ 2 _ (left-holds _ _ items);
-      ranges = stand _ 4 _ (right-holds _ _ items);
-      customs = stand _ 3 _ (left-holds _ _ customs);
-      inputs = stand _ 5 _ (right-holds _ _ customs);
-      functions = stand _ 7 _ (left-holds _ _ functions);
-      parameters = rw (mul-one (m .outside .used .parameters)) at (stand _ 1 _ (right-holds _ _ functions));
+      counts = e;
+      ends = rw (mul-one (u .names)) at (stand (u .names) 1 (length (m .ends)) (names .first));
+      constants = stand (u .constants) 8 (length (m .constants)) (names .second);
+      tokens = stand (u .tokens) 2 (length (m .tokens)) (tokens .first);
+      assigns = stand (u .assigns) 6 (length (m .assigns)) (tokens .second);
+      chains = stand (u .chains) 9 (length (m .chains)) (chains .first);
+      steps = stand (u .steps) 11 (length (m .steps)) (chains .second);
+      switches = stand (u .switches) 3 (length (m .switches)) (switches .first);
+      cases = stand (u .cases) 2 (length (m .cases)) (cases .first);
+      ranges = stand (u .ranges) 4 (length (m .ranges)) (cases .second);
+      customs = stand (u .customs) 3 (length (m .customs)) (customs .first);
+      inputs = stand (u .inputs) 5 (length (m .inputs)) (customs .second);
+      functions = stand (u .functions) 7 (length (m .functions)) (functions .first);
+      parameters = rw (mul-one (u .parameters)) at (stand (u .parameters) 1 (length (m .parameters)) (functions .second));
     }
+
+-- the position table lies in the text
+pub table-lies : {mask : ℕ} {m : Lent} → FiveHold mask m → m .outside .positions .start + m .outside .positions .size ≤ length (m .text)
+table-lies {mask} {m} five =
+    let o = m .outside in
+    let outside = both (outsideLies (m .text) (o .source) (o .blob) (o .code) (o .positions)) _ (five .two) in
+    let behind = both (lies (m .text) (o .source) && lies (m .text) (o .blob)) _ (outside .first) in
+    leb-true _ _ (both (lies (m .text) (o .code)) _ (behind .second) .second)

@@ -1,10 +1,17 @@
 // The lowest rule of well-formed tables that is broken, of the ten that do not ask for the length: document 01, "Well-formed tables,
 // and writing". Each test stands on those before it: rows that are not there are not looked at.
 ghost use mathlib.Core.Path.{_≡_};
+ghost use mathlib.Core.Bool.{_&&_};
+ghost use Prim.Native.Nat.{_*_, _≤_};
+ghost use lib.ListN.{length, take};
+ghost use lib.Dec.{eqb};
+ghost use Rattle.format.specs.File.{rising, lastEnd};
 ghost use Rattle.model.specs.Lent.{lent};
+ghost use Rattle.model.specs.Rules as definition;
 ghost use Rattle.model.specs.Written.{brokenOfTen};
 ghost use Rattle.judging.specs.Standing.{RowsStand, FiveHold};
 use format::answer::Artifact;
+use format::answer::Used;
 use rules::counts;
 use rules::each;
 use rules::names as ends;
@@ -12,6 +19,7 @@ use rules::positions;
 use rules::texts;
 use rules::trees;
 use rules::whole;
+use rules::words::both;
 
 // By its number, 0 where none is broken. `fit` says that the numbers outside the tables fit their kinds (rule 9).
 pub fn broken(
@@ -98,27 +106,24 @@ fn broken_rows(
     ensures { λ r. ⌜ r ≡ brokenOfTen mask (lent outside fit (now (names .entry)) (now (constants .entry)) (now (tokens .entry)) (now (assigns .entry)) (now (chains .entry)) (now (steps .entry)) (now (switches .entry)) (now (cases .entry)) (now (ranges .entry)) (now (customs .entry)) (now (inputs .entry)) (now (functions .entry)) (now (parameters .entry)) (now (text .entry))) ⌝ }
 {
     let u = outside.used;
-    let source = outside.source;
-    let blob = outside.blob;
-    if !whole::shares_fit(u, outside.tops, constants, chains, switches, customs, functions) {
+    if !whole::shares_fit(
+        u,
+        outside.tops,
+        constants,
+        chains,
+        switches,
+        customs,
+        functions,
+    ) {
         return 1;
     }
-    if !texts::outside_lies(text, source, blob, outside.code, outside.positions) {
+    if !spans_lie(outside, constants, tokens, assigns, text) {
         return 2;
     }
-    if !whole::texts_lie(u, constants, tokens, assigns, text) {
-        return 2;
-    }
-    if !utf8::is_utf8_at(text, source.start, source.size) {
+    if !strings_are_utf8(outside, constants, tokens, assigns, text) {
         return 3;
     }
-    if !whole::texts_are_utf8(u, constants, tokens, assigns, text) {
-        return 3;
-    }
-    if !ends::ends(names, u.names, blob.size) {
-        return 4;
-    }
-    if !utf8::is_utf8_at(text, blob.start, blob.size) {
+    if !names_hold(outside, names, text) {
         return 4;
     }
     if !whole::known(mask, u, constants, chains, steps, functions, text) {
@@ -178,20 +183,125 @@ fn broken_behind(
     if !each::cases(8, outside.tops, cases, u.cases) {
         return 8;
     }
-    if !fit {
-        return 9;
-    }
-    if !whole::sound_front(u, names, assigns, chains, steps, text) {
-        return 9;
-    }
-    if !whole::sound_switches(u, switches, cases, ranges) {
-        return 9;
-    }
-    if !whole::sound_callables(u, customs, inputs, functions, parameters) {
+    if !numbers_fit(
+        fit,
+        u,
+        names,
+        assigns,
+        chains,
+        steps,
+        switches,
+        cases,
+        ranges,
+        customs,
+        inputs,
+        functions,
+        parameters,
+        text,
+    ) {
         return 9;
     }
     if !positions::sound_table(text, outside.positions) {
         return 10;
     }
     0
+}
+
+// 2. spans lie in the lent text
+fn spans_lie(
+    outside: Artifact,
+    constants: &[u64],
+    tokens: &[u64],
+    assigns: &[u64],
+    text: &[u8],
+) -> bool
+    requires { ⌜ outside .used .constants * 8 ≤ length (now constants) ⌝ }
+    requires { ⌜ outside .used .tokens * 2 ≤ length (now tokens) ⌝ }
+    requires { ⌜ outside .used .assigns * 6 ≤ length (now assigns) ⌝ }
+    ensures { λ r. ⌜ r ≡ (definition.outsideLies (now (text .entry)) (outside .source) (outside .blob) (outside .code) (outside .positions) && definition.texts definition.texted (definition.lies (now (text .entry))) (outside .used) (now (constants .entry)) (now (tokens .entry)) (now (assigns .entry))) ⌝ }
+{
+    both(
+        texts::outside_lies(
+            text,
+            outside.source,
+            outside.blob,
+            outside.code,
+            outside.positions,
+        ),
+        whole::texts_lie(outside.used, constants, tokens, assigns, text),
+    )
+}
+
+// 3. strings are UTF-8
+fn strings_are_utf8(
+    outside: Artifact,
+    constants: &[u64],
+    tokens: &[u64],
+    assigns: &[u64],
+    text: &[u8],
+) -> bool
+    requires { ⌜ outside .used .constants * 8 ≤ length (now constants) ⌝ }
+    requires { ⌜ outside .used .tokens * 2 ≤ length (now tokens) ⌝ }
+    requires { ⌜ outside .used .assigns * 6 ≤ length (now assigns) ⌝ }
+    ensures { λ r. ⌜ r ≡ (definition.isText (now (text .entry)) (outside .source) && definition.texts definition.named (definition.isText (now (text .entry))) (outside .used) (now (constants .entry)) (now (tokens .entry)) (now (assigns .entry))) ⌝ }
+{
+    let source = outside.source;
+    both(
+        utf8::is_utf8_at(text, source.start, source.size),
+        whole::texts_are_utf8(outside.used, constants, tokens, assigns, text),
+    )
+}
+
+// 4. the names rule
+fn names_hold(outside: Artifact, names: &[u64], text: &[u8]) -> bool
+    requires { ⌜ outside .used .names ≤ length (now names) ⌝ }
+    ensures { λ r. ⌜ r ≡ ((rising 0 (take (outside .used .names) (now (names .entry))) && eqb (lastEnd 0 (take (outside .used .names) (now (names .entry)))) (outside .blob .size)) && definition.isText (now (text .entry)) (outside .blob)) ⌝ }
+{
+    let used = outside.used;
+    let blob = outside.blob;
+    both(
+        ends::ends(names, used.names, blob.size),
+        utf8::is_utf8_at(text, blob.start, blob.size),
+    )
+}
+
+// 9. numbers fit their kinds, outside the tables and in them
+fn numbers_fit(
+    fit: bool,
+    u: Used,
+    names: &[u64],
+    assigns: &[u64],
+    chains: &[u64],
+    steps: &[u64],
+    switches: &[u64],
+    cases: &[u64],
+    ranges: &[u64],
+    customs: &[u64],
+    inputs: &[u64],
+    functions: &[u64],
+    parameters: &[u64],
+    text: &[u8],
+) -> bool
+    requires { ⌜ u .names ≤ length (now names) ⌝ }
+    requires { ⌜ u .assigns * 6 ≤ length (now assigns) ⌝ }
+    requires { ⌜ u .chains * 9 ≤ length (now chains) ⌝ }
+    requires { ⌜ u .steps * 11 ≤ length (now steps) ⌝ }
+    requires { ⌜ u .switches * 3 ≤ length (now switches) ⌝ }
+    requires { ⌜ u .cases * 2 ≤ length (now cases) ⌝ }
+    requires { ⌜ u .ranges * 4 ≤ length (now ranges) ⌝ }
+    requires { ⌜ u .customs * 3 ≤ length (now customs) ⌝ }
+    requires { ⌜ u .inputs * 5 ≤ length (now inputs) ⌝ }
+    requires { ⌜ u .functions * 7 ≤ length (now functions) ⌝ }
+    requires { ⌜ u .parameters ≤ length (now parameters) ⌝ }
+    ensures { λ r. ⌜ r ≡ (fit && (definition.soundFront u (now (names .entry)) (now (assigns .entry)) (now (chains .entry)) (now (steps .entry)) && (definition.soundSwitches u (now (switches .entry)) (now (cases .entry)) (now (ranges .entry)) && definition.soundCallables u (now (customs .entry)) (now (inputs .entry)) (now (functions .entry)) (now (parameters .entry))))) ⌝ }
+{
+    let items = both(
+        whole::sound_switches(u, switches, cases, ranges),
+        whole::sound_callables(u, customs, inputs, functions, parameters),
+    );
+    let rows = both(
+        whole::sound_front(u, names, assigns, chains, steps, text),
+        items,
+    );
+    both(fit, rows)
 }

@@ -1,10 +1,10 @@
 // The whole artifact: the sections in file order, then the end of the file.
 ghost use mathlib.Core.List.{[], _∷_};
 ghost use Rattle.reading.specs.Answer.{Answered};
-use format::answer::Answer;
 use crate::collect;
 use crate::steps as section;
 use crate::steps::Place;
+use format::answer::Answer;
 
 // Thirteen tables of whole rows are lent, each cleared before it is filled. A refusal leaves every word of them zero.
 pub fn read(

@@ -7,8 +7,8 @@ ghost use Rattle.model.specs.Lent.{every};
 ghost use Rattle.model.specs.Rules as definition;
 ghost use Rattle.rules.specs.Keeps as keeps;
 use crate::records;
-use rows::row;
 use crate::texts;
+use rows::row;
 
 pub fn constants(rule: u8, t: &[u64], used: usize, text: &[u8]) -> bool
     requires { ⌜ used * 8 ≤ length (now t) ⌝ }

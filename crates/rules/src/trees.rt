@@ -10,11 +10,11 @@ ghost use Rattle.model.specs.Rules as definition;
 ghost use Rattle.rules.specs.Keeps as keeps;
 ghost use Rattle.rules.specs.From.{rowsFrom};
 ghost use Rattle.rules.specs.Walks.{Walk, entriesAt, reachedIs};
-use rows::row;
 use crate::texts;
 use crate::words::both;
 use crate::words::either;
 use format::tags::Limit;
+use rows::row;
 
 // Where a walk over some constants ends, and whether nothing is owed there.
 pub struct Walked {
