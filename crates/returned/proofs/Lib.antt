@@ -1,0 +1,2 @@
+-- What was read, lent back, means what was read and keeps the rules.
+pub mod Texts

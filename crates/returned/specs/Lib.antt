@@ -1,0 +1,2 @@
+-- What is lent back.
+pub mod Lending
