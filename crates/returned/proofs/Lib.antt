@@ -1,2 +1,5 @@
 -- What was read, lent back, means what was read and keeps the rules.
 pub mod Texts
+pub mod Lists
+pub mod Means
+pub mod Returned
