@@ -2,4 +2,5 @@
 pub mod Texts
 pub mod Lists
 pub mod Means
+pub mod Trees
 pub mod Returned

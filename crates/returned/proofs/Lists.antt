@@ -20,6 +20,10 @@ pub twice : {X Y Z : Type 0} (f : Y → Z) (g : X → Y) (h : X → Z) {P : X �
 twice f g h one [] ok = refl
 twice f g h one (x ∷ xs) ok = rw (one x (ok .0), twice f g h one xs (ok .1))
 
+pub each-append : {Y : Type 0} (P : Y → Type 0) (a b : List Y) → Each P a → Each P b → Each P (a ++ b)
+each-append P [] b first second = second
+each-append P (y ∷ a) b first second = (first .0, each-append P a b (first .1) second)
+
 -- ── items ──
 
 -- places used behind records with items are as many as all the items
