@@ -2,5 +2,8 @@
 pub mod Texts
 pub mod Lists
 pub mod Means
+pub mod Records
+pub mod Held
 pub mod Trees
+pub mod Rules
 pub mod Returned

@@ -24,6 +24,11 @@ pub each-append : {Y : Type 0} (P : Y → Type 0) (a b : List Y) → Each P a �
 each-append P [] b first second = second
 each-append P (y ∷ a) b first second = (first .0, each-append P a b (first .1) second)
 
+pub each-flat : {X Y : Type 0} (items : X → List Y) (P : Y → Type 0) (xs : List X) → Each (λ x. Each P (items x)) xs → Each P (flatMap items xs)
+unfolding flatMap
+each-flat items P [] ok = tt
+each-flat items P (x ∷ xs) ok = each-append P (items x) (flatMap items xs) (ok .0) (each-flat items P xs (ok .1))
+
 -- ── items ──
 
 -- places used behind records with items are as many as all the items

@@ -16,9 +16,10 @@ use Rattle.format.specs.File.{scalar}
 use Rattle.format.specs.Rows as R
 use Rattle.rows.specs.Back.{cut, word}
 use Rattle.stored.proofs.Stored.{each}
-use Rattle.model.specs.Rules.{tag, owns, skip, entries, keyed, exactly, lies, spanAt, named, texted, isText, knownConstant, behind, within}
+use Rattle.model.specs.Rules.{tag, owns, skip, entries, keyed, fits, exactly, lies, spanAt, named, texted, isText, knownConstant, behind, within}
 use Rattle.returned.proofs.Texts.{Stands, Spelled, Told}
 use Rattle.returned.proofs.Lists.{each-append}
+use Rattle.returned.proofs.Held.{has-room}
 
 -- ── what a row and a key keep ──
 
@@ -62,16 +63,16 @@ module _ (s : List ℕ) where
     keys : (rest : List (List ℕ)) → Each (KeyRow s) (keyed rest) → Each (KeyRow s) (keyed (own ++ rest))
     enters : (n : ℕ) (rest : List (List ℕ)) → Key s key → Each (KeyRow s) (entries n rest) → Each (KeyRow s) (entries (suc n) (own ++ rest))
 
-  pub record Several {X : Type 0} (levels : ℕ) (key : X → Span) (constant : X → A.Constant Text levels) (xs : List X) : Type 0 where
-    pub all : List (List ℕ)
-    pub cuts : (n : ℕ) (rest : List ℕ) → cut 8 (n + length all) (rows (λ x. R.constantRows levels (key x) (constant x)) xs ++ rest) ≡ all ++ cut 8 n rest
-    pub used : (from : ℕ) → foldl (λ from x. A.behind Text levels from (constant x)) from xs ≡ from + length all
-    pub wide : length (rows (λ x. R.constantRows levels (key x) (constant x)) xs) ≡ 8 * length all
+  record Several {X : Type 0} (levels : ℕ) (key : X → Span) (constant : X → A.Constant Text levels) (xs : List X) : Type 0 where
+    all : List (List ℕ)
+    cuts : (n : ℕ) (rest : List ℕ) → cut 8 (n + length all) (rows (λ x. R.constantRows levels (key x) (constant x)) xs ++ rest) ≡ all ++ cut 8 n rest
+    used : (from : ℕ) → foldl (λ from x. A.behind Text levels from (constant x)) from xs ≡ from + length all
+    wide : length (rows (λ x. R.constantRows levels (key x) (constant x)) xs) ≡ 8 * length all
     skips : (n : ℕ) (rest : List (List ℕ)) → skip (all ++ rest) (length xs + n) ≡ skip rest n
-    pub owes : (n : ℕ) (rest : List (List ℕ)) → exactly (all ++ rest) (length xs + n) ≡ exactly rest n
-    pub shallow : (rest : List (List ℕ)) → within levels (length xs) (all ++ rest) ≡ behind rest
-    pub keeps : Each (Keeps s) all
-    pub keys : (rest : List (List ℕ)) → Each (KeyRow s) (keyed rest) → Each (KeyRow s) (keyed (all ++ rest))
+    owes : (n : ℕ) (rest : List (List ℕ)) → exactly (all ++ rest) (length xs + n) ≡ exactly rest n
+    shallow : (rest : List (List ℕ)) → within levels (length xs) (all ++ rest) ≡ behind rest
+    keeps : Each (Keeps s) all
+    keys : (rest : List (List ℕ)) → Each (KeyRow s) (keyed rest) → Each (KeyRow s) (keyed (all ++ rest))
     enters : (rest : List (List ℕ)) → Each (λ x. Key s (key x)) xs → Each (KeyRow s) (entries (length xs) (all ++ rest))
 
   within-none : (levels : ℕ) (rest : List (List ℕ)) → within levels 0 rest ≡ behind rest
@@ -263,6 +264,32 @@ module _ (s : List ℕ) where
   constant-one zero own c ok = absurd c
   constant-one (suc levels) own c ok = tagged levels (constant-one levels) own c ok
 
-  -- top constants: their rows have no keys
-  pub tops : (cs : List (A.Constant Text A.levels)) → Each (Told s A.levels) cs → Several A.levels (unkeyed A.levels) (itself A.levels) cs
-  tops cs ok = several A.levels (constant-one A.levels) (unkeyed A.levels) (itself A.levels) cs ok
+-- ── top constants, in front of a table ──
+
+pub record Tops (s table : List ℕ) (levels used n : ℕ) : Type 0 where
+  pub room : fits used 8 table ≡ true
+  pub owes : exactly (cut 8 used table) n ≡ true
+  pub shallow : within levels n (cut 8 used table) ≡ behind []
+  pub keeps : Each (Keeps s) (cut 8 used table)
+  pub keys : Each (KeyRow s) (keyed (cut 8 used table))
+
+pub tops : (s : List ℕ) (levels : ℕ) (cs : List (A.Constant Text levels)) → Each (Told s levels) cs → (table rest : List ℕ) →
+    table ≡ rows (R.constantRows levels R.nowhere) cs ++ rest → Tops s table levels (foldl (A.behind Text levels) 0 cs) (length cs)
+unfolding exactly keyed
+tops s levels cs ok table rest e =
+    record {
+      room = rw (e, used) (has-room (length (r .all)) 8 (rows (R.constantRows levels R.nowhere) cs) rest (omega arith) (omega (arith, r .wide)));
+      owes = let none : length cs ≡ length cs + 0 = omega arith in rw (are, none) (r .owes 0 []);
+      shallow = rw are (r .shallow []);
+      keeps = rw (are, append-nil (r .all)) (r .keeps);
+      keys = rw are (r .keys [] tt);
+    }
+  where
+    r : Several s levels (unkeyed s levels) (itself s levels) cs
+    r = several s levels (constant-one s levels) (unkeyed s levels) (itself s levels) cs ok
+
+    used : foldl (A.behind Text levels) 0 cs ≡ length (r .all)
+    used = omega (arith, r .used 0)
+
+    are : cut 8 (foldl (A.behind Text levels) 0 cs) table ≡ r .all ++ []
+    are = rw (r .used 0, e) (r .cuts 0 rest)
