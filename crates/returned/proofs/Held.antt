@@ -7,7 +7,8 @@ use native.Mathlib.Nat.{mul-add-div-right}
 use native.Mathlib.Omega.{arith}
 use lib.ListN.{length, length-append, getD}
 use lib.Seq.{take-at, drop-at}
-use borrow.Author.Tests.{le-leb}
+use lib.Dec.{eqb}
+use borrow.Author.Tests.{le-leb, eq-eqb}
 use Rattle.grammar.specs.Combinators.{Each}
 use Rattle.tables.specs.Table.{rows}
 use Rattle.format.specs.Artifact as A
@@ -60,7 +61,7 @@ items-hold : {X Y : Type 0} (items : X → List Y) (row : Y → List ℕ) (width
     used ≡ length (flatMap items xs) → (rest : List ℕ) → Holds row width used (flatMap items xs) (rows (λ x. rows row (items x)) xs ++ rest)
 items-hold items row width wide h xs used e rest = rw (rows-flat items row xs, e) (rows-hold row width wide h (flatMap items xs) rest)
 
--- ── the thirteen tables, without the constants ──
+-- ── the thirteen tables; of constants and ends, the words in front ──
 
 begin-at : (tables words : List (List ℕ)) → Begin tables words → (i : ℕ) → i < length words → (rest : List ℕ) × (getD tables i [] ≡ getD words i [] ++ rest)
 begin-at tables [] ok i h = absurd (omega arith)
@@ -113,6 +114,7 @@ tables-hold a tables begins =
 
 -- ── what holds of each row ──
 
+-- a test that holds of each
 pub each-every : {X : Type 0} (test : X → Bool) (xs : List X) → Each (λ x. test x ≡ true) xs → every test xs ≡ true
 each-every test [] ok = refl
 each-every test (x ∷ xs) ok = rw (ok .0, each-every test xs (ok .1))
@@ -125,16 +127,17 @@ module _ {X : Type 0} {row : X → List ℕ} {width used : ℕ} {xs : List X} {t
       go [] ok = refl
       go (y ∷ ys) ok = rw (ok .0, go ys (ok .1))
 
-  -- the items that records say they have are all of them
-  pub total-items : {Y : Type 0} (items : X → List Y) (i : ℕ) → Each (λ x. word (row x) i ≡ length (items x)) xs → total i (cut width used table) ≡ length (flatMap items xs)
+  -- the items that records say they have are all that are used of their table
+  pub shares : {Y : Type 0} (items : X → List Y) (i : ℕ) {all : ℕ} → all ≡ length (flatMap items xs) → Each (λ x. word (row x) i ≡ length (items x)) xs →
+      eqb (total i (cut width used table)) all ≡ true
   unfolding total flatMap
-  total-items {Y} items i ok = rw (h .are) (go xs ok)
+  shares {Y} items i {all} e ok = rw (h .are, e) (eq-eqb _ _ (go xs ok))
     where
       go : (ys : List X) → Each (λ x. word (row x) i ≡ length (items x)) ys → total i (map row ys) ≡ length (flatMap items ys)
       go [] ok = refl
       go (y ∷ ys) ok = omega (arith, ok .0, go ys (ok .1), length-append (items y) (flatMap items ys))
 
--- the same of items, one list behind the other
+-- of each row of items, which stand one list behind the other
 pub every-item : {X Y : Type 0} (items : X → List Y) (xs : List X) {row : Y → List ℕ} {width used : ℕ} {table : List ℕ} → Holds row width used (flatMap items xs) table →
     (test : List ℕ → Bool) → Each (λ x. Each (λ y. test (row y) ≡ true) (items x)) xs → every test (cut width used table) ≡ true
 every-item items xs {row} h test ok = every-row h test (each-flat items (λ y. test (row y) ≡ true) xs ok)

@@ -3,14 +3,22 @@ use Prim.Native.Nat.{ℕ, zero, suc}
 use mathlib.Core.Path.{_≡_, refl, _∙_, ap}
 use mathlib.Core.List.{List, [], map}
 use Rattle.grammar.specs.Combinators.{Text, Each}
+use Rattle.tables.specs.Table.{With}
+use Rattle.format.specs.declared.records.NameIndex.{NameIndex}
+use Rattle.format.specs.declared.records.Chunk.{Chunk}
+use Rattle.format.specs.declared.records.Step.{Step}
+use Rattle.format.specs.declared.records.Chain.{Chain}
+use Rattle.format.specs.declared.records.Input.{Input}
+use Rattle.format.specs.declared.records.Site.{Site}
+use Rattle.format.specs.declared.records.Function.{Function}
 use Rattle.format.specs.Artifact as A
 use Rattle.rows.specs.Given.{placedAssign}
 use Rattle.format.specs.Rows as R
 use Rattle.rows.specs.Tree.{Grown, overTexts}
-use Rattle.written.specs.Meaning.{meanText, meanConstant, meanAssign}
+use Rattle.written.specs.Meaning.{Meaning, meanText, meanConstant, meanAssign}
 use Rattle.model.specs.Lent.{clip}
 use Rattle.model.specs.Tables.{assignMeans}
-use Rattle.returned.proofs.Texts.{Stands, Spelled, Told, ToldAssign}
+use Rattle.returned.proofs.Texts.{Spelled, Told, ToldAssign}
 use Rattle.returned.proofs.Lists.{twice}
 
 module _ (s : List ℕ) where
@@ -56,3 +64,29 @@ module _ (s : List ℕ) where
       map (λ tree. overTexts (clip s) levels (tree .1)) (grown .trees) ≡ map (meanConstant levels) cs
   constants-mean levels grown cs e ok =
       ap (λ (g : Grown levels). map (λ tree. overTexts (clip s) levels (tree .1)) (g .trees)) e ∙ twice _ _ _ (constant-means levels) cs ok
+
+-- a meaning of its parts
+abbrev built : A.Header → List ℕ → List ℕ → List ℕ → List (A.Constant (List ℕ) A.levels) → List (List ℕ) → List (A.Assign (List ℕ)) → List (With Chain Step) →
+    List A.Cased → List (With Site Input) → Chunk → List (With Function NameIndex) → List ℕ → List ℕ → Meaning
+built header source ends blob constants tokens assigns chains switches customs main functions code positions =
+    record {
+      header = header;
+      source = source;
+      names = record { ends = ends; blob = blob };
+      constants = constants;
+      tokens = tokens;
+      assigns = assigns;
+      chains = chains;
+      switches = switches;
+      customs = customs;
+      main = main;
+      functions = functions;
+      code = code;
+      positions = positions;
+    }
+
+pub built-same : {h : A.Header} {so so' en en' bl bl' : List ℕ} {cs cs' : List (A.Constant (List ℕ) A.levels)} {ts ts' : List (List ℕ)} {os os' : List (A.Assign (List ℕ))}
+    {ls ls' : List (With Chain Step)} {ws ws' : List A.Cased} {us us' : List (With Site Input)} {m : Chunk} {fs fs' : List (With Function NameIndex)} {co co' ps ps' : List ℕ} →
+    so ≡ so' → en ≡ en' → bl ≡ bl' → cs ≡ cs' → ts ≡ ts' → os ≡ os' → ls ≡ ls' → ws ≡ ws' → us ≡ us' → fs ≡ fs' → co ≡ co' → ps ≡ ps' →
+    built h so en bl cs ts os ls ws us m fs co ps ≡ built h so' en' bl' cs' ts' os' ls' ws' us' m fs' co' ps'
+built-same e1 e2 e3 e4 e5 e6 e7 e8 e9 e10 e11 e12 = rw (e1, e2, e3, e4, e5, e6, e7, e8, e9, e10, e11, e12)

@@ -1,8 +1,7 @@
 -- The row of a record that fits keeps the rules on rows: its numbers are sound and its tags are known.
-use Prim.Native.Nat.{ℕ, _+_, _^_, _≤_, _<_}
+use Prim.Native.Nat.{ℕ, _^_, _≤_}
 use mathlib.Core.Path.{_≡_, refl}
 use mathlib.Core.Bool.{Bool, true, false, not, _&&_, _||_}
-use mathlib.Core.List.{List}
 use native.Mathlib.Omega.{arith}
 use lib.Dec.{eqb}
 use borrow.Author.Tests.{lt-ltb, le-leb, eq-eqb, ne-eqb}
@@ -27,7 +26,7 @@ use Rattle.format.specs.Artifact as A
 use Rattle.format.specs.Rows as R
 use Rattle.rows.specs.Back.{word}
 use Rattle.rows.specs.Fits.{FitsBits, FitsName, FitsPosition, FitsChunk, FitsAssign, FitsRoot, FitsTail, FitsChain, FitsStep, FitsSwitch, FitsCase, FitsRange, FitsSite, FitsLiteral, FitsInput, FitsThis, FitsFunction}
-use Rattle.written.specs.WellFormed.{WellStep, WellCase}
+use Rattle.written.specs.WellFormed.{WellStep}
 use Rattle.model.specs.Rules.{bits, among, yesNo, soundPosition, soundChunk, soundWord, soundAssign, soundChain, soundStep, soundSwitch, soundCase, soundRange, soundSite, soundInput, soundFunction, knownChain, knownStep, knownFunction}
 
 -- ── numbers ──

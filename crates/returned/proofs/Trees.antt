@@ -109,7 +109,8 @@ module _ (s : List ℕ) where
         all = o .own ++ r .all;
         cuts = λ n rest.
             let counts : n + length (o .own ++ r .all) ≡ n + length (r .all) + length (o .own) = omega (arith, length-append (o .own) (r .all)) in
-            rw (counts, append-assoc (words x) (rows words xs) rest, o .cuts (n + length (r .all)) (rows words xs ++ rest), r .cuts n rest, append-assoc (o .own) (r .all) (cut 8 n rest));
+            rw (counts, append-assoc (words x) (rows words xs) rest, o .cuts (n + length (r .all)) (rows words xs ++ rest),
+            r .cuts n rest, append-assoc (o .own) (r .all) (cut 8 n rest));
         used = λ from. r .used (A.behind Text levels from (constant x)) ∙ omega (arith, o .used from, length-append (o .own) (r .all));
         wide = omega (arith, length-append (words x) (rows words xs), length-append (o .own) (r .all), o .wide, r .wide);
         skips = λ n rest. rw (append-assoc (o .own) (r .all) rest, next n, o .skips (length xs + n) (r .all ++ rest)) (r .skips n rest);
@@ -151,7 +152,8 @@ module _ (s : List ℕ) where
         own = h .words ∷ r .all;
         cuts = λ n rest.
             let counts : n + suc (length (r .all)) ≡ suc (n + length (r .all)) = omega arith in
-            rw (counts, h .front, append-assoc (h .words) inner rest, take-at (h .words) (inner ++ rest) 8 (h .wide), drop-at (h .words) (inner ++ rest) 8 (h .wide), r .cuts n rest);
+            rw (counts, h .front, append-assoc (h .words) inner rest, take-at (h .words) (inner ++ rest) 8 (h .wide),
+            drop-at (h .words) (inner ++ rest) 8 (h .wide), r .cuts n rest);
         used = λ from. h .used from ∙ r .used (from + 1) ∙ omega arith;
         wide = rw (h .front) (omega (arith, length-append (h .words) inner, h .wide, r .wide));
         skips = λ n rest. ap (λ (k : ℕ). skip (r .all ++ rest) (k + n)) (h .count) ∙ r .skips n rest;
@@ -159,7 +161,8 @@ module _ (s : List ℕ) where
         shallow = λ n rest. rw (h .count, r .shallow rest);
         keeps = (h .keeps, r .keeps);
         keys = λ rest ok.
-            each-append (KeyRow s) (if eqb (tag (h .words)) 0x08 then entries (word (h .words) 5) (r .all ++ rest) else []) (keyed (r .all ++ rest)) (of-map (eqb (tag (h .words)) 0x08) (h .keys) rest) (r .keys rest ok);
+            each-append (KeyRow s) (if eqb (tag (h .words)) 0x08 then entries (word (h .words) 5) (r .all ++ rest) else []) (keyed (r .all ++ rest))
+            (of-map (eqb (tag (h .words)) 0x08) (h .keys) rest) (r .keys rest ok);
         enters = λ n rest k ok. (rw (h .keyed) k, rw (h .count, passed rest) ok);
       }
     where
