@@ -1,4 +1,4 @@
--- Lists of records and their rows: shares of items, rows cut apart, a test that holds of each.
+-- Lists of records with items: how many items there are, and each record's share of them.
 use Prim.Native.Nat.{ℕ, _+_}
 use mathlib.Core.Path.{_≡_, refl, _∙_}
 use mathlib.Core.List.{List, [], _∷_, _++_, map, flatMap, foldl}
@@ -61,5 +61,12 @@ pub shared-cases-back : (ws : List A.Cased) → Each (λ w. (w .whole .cases ≡
 unfolding flatMap
 shared-cases-back [] says = refl
 shared-cases-back (w ∷ ws) says =
-    rw (says .0 .0, says .0 .1, take-at (w .cases) (flatMap (λ w. w .cases) ws) _ refl, drop-at (w .cases) (flatMap (λ w. w .cases) ws) _ refl,
-    take-at (w .ranges) (flatMap (λ w. w .ranges) ws) _ refl, drop-at (w .ranges) (flatMap (λ w. w .ranges) ws) _ refl, shared-cases-back ws (says .1))
+    rw (
+      says .0 .0,
+      says .0 .1,
+      take-at (w .cases) (flatMap (λ w. w .cases) ws) _ refl,
+      drop-at (w .cases) (flatMap (λ w. w .cases) ws) _ refl,
+      take-at (w .ranges) (flatMap (λ w. w .ranges) ws) _ refl,
+      drop-at (w .ranges) (flatMap (λ w. w .ranges) ws) _ refl,
+      shared-cases-back ws (says .1),
+    )

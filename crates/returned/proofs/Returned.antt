@@ -59,19 +59,22 @@ module _ (places : A.Places) (mask : ℕ) (s : List ℕ) (bytes : Bytes s) (a : 
   chains-mean : shared (λ c. c .steps) (map B.chainOf (B.cut 9 (length (a .chains)) (getD tables 4 [])))
       (map B.stepOf (B.cut 11 (foldl countItems 0 (a .chains)) (getD tables 5 [])))
       ≡ a .chains
-  chains-mean = rw (give .chains, items-used (a .chains), give .steps)
+  chains-mean =
+      rw (give .chains, items-used (a .chains), give .steps)
       (shared-back _ (a .chains) (each says (a .chains) (well .chains .list .each)))
 
   customs-mean : shared (λ u. u .inputs) (map B.siteOf (B.cut 3 (length (a .customs)) (getD tables 9 [])))
       (map B.inputOf (B.cut 5 (foldl countItems 0 (a .customs)) (getD tables 10 [])))
       ≡ a .customs
-  customs-mean = rw (give .customs, items-used (a .customs), give .inputs)
+  customs-mean =
+      rw (give .customs, items-used (a .customs), give .inputs)
       (shared-back _ (a .customs) (each says (a .customs) (well .customs .list .each)))
 
   functions-mean : shared (λ f. f .parameters) (map B.functionOf (B.cut 7 (length (a .functions)) (getD tables 11 [])))
       (map B.parameterOf (B.cut 1 (foldl countItems 0 (a .functions)) (getD tables 12 [])))
       ≡ a .functions
-  functions-mean = rw (give .functions, items-used (a .functions), give .parameters)
+  functions-mean =
+      rw (give .functions, items-used (a .functions), give .parameters)
       (shared-back _ (a .functions) (each says (a .functions) (well .functions .list .each)))
 
   switches-mean : sharedCases (map B.switchOf (B.cut 3 (length (a .switches)) (getD tables 6 [])))

@@ -73,6 +73,7 @@ module _ (places : A.Places) (mask : ℕ) (s : List ℕ) (a : A.Artifact) (table
 
   -- ── 2, 3. spans lie in the lent text, strings are UTF-8 ──
 
+  -- the constants' rows, and those of them that have keys
   abbrev constantRows : List (List ℕ)
   constantRows = cut 8 (outside a .used .constants) (getD tables 1 [])
 
@@ -102,21 +103,21 @@ module _ (places : A.Places) (mask : ℕ) (s : List ℕ) (a : A.Artifact) (table
       (texts M.texted (M.lies s) (λ row ok. ok .inside) (λ span ok. ok .inside))
 
   holds3 : M.rule3 (lentOf (outside a) tables s) ≡ true
-  holds3 =
-      both (spelled-key (a .source) (told .source) .text)
-      (texts M.named (M.isText s) (λ row ok. ok .text) (λ span ok. ok .text))
+  holds3 = both (spelled-key (a .source) (told .source) .text) (texts M.named (M.isText s) (λ row ok. ok .text) (λ span ok. ok .text))
 
   -- ── 4. the names rule ──
 
   holds4 : M.rule4 (lentOf (outside a) tables s) ≡ true
-  holds4 =
-      let rises : rising 0 (take (length (a .names .ends)) (getD tables 0 [])) ≡ true = rw ends (well .names .rises) in
-      let last : lastEnd 0 (take (length (a .names .ends)) (getD tables 0 [])) ≡ a .names .blob .span .size =
-          rw ends (well .names .last ∙ stands-long (a .names .blob) (told .blob .stands)) in
-      both (both rises (eq-eqb _ _ last)) (spelled-key (a .names .blob) (told .blob) .text)
+  holds4 = both (both rises (eq-eqb _ _ last)) (spelled-key (a .names .blob) (told .blob) .text)
     where
       ends : take (length (a .names .ends)) (getD tables 0 []) ≡ a .names .ends
       ends = rw (held .ends .1, ends-are (a .names .ends)) (take-at (a .names .ends) (held .ends .0) _ refl)
+
+      rises : rising 0 (take (length (a .names .ends)) (getD tables 0 [])) ≡ true
+      rises = rw ends (well .names .rises)
+
+      last : lastEnd 0 (take (length (a .names .ends)) (getD tables 0 [])) ≡ a .names .blob .span .size
+      last = rw ends (well .names .last ∙ stands-long (a .names .blob) (told .blob .stands))
 
   -- ── 5, 6, 7. tags are known, levels do, chars are scalars ──
 

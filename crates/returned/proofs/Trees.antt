@@ -36,6 +36,7 @@ pub record Key (s : List ℕ) (span : Span) : Type 0 where
 abbrev pub KeyRow : List ℕ → List ℕ → Type 0
 KeyRow s row = Key s (spanAt 6 row)
 
+-- texts that stand in the bytes have spans that keep them
 pub stands-inside : {s : List ℕ} (t : Text) → Stands s t → lies s (t .span) ≡ true
 stands-inside t ok = le-leb _ _ (ok .lies)
 
@@ -49,8 +50,16 @@ Where false T = Unit
 
 -- ── one constant, and several ──
 
+-- constants whose rows have no keys
+module _ (levels : ℕ) where
+  abbrev unkeyed : A.Constant Text levels → Span
+  unkeyed c = R.nowhere
+
+  abbrev itself : A.Constant Text levels → A.Constant Text levels
+  itself c = c
+
 module _ (s : List ℕ) where
-  -- its rows, cut apart, are stepped over as one constant
+  -- its rows, cut apart, are stepped over as one constant, and keep the rules on rows and keys
   record One (levels : ℕ) (key : Span) (c : A.Constant Text levels) : Type 0 where
     own : List (List ℕ)
     cuts : (n : ℕ) (rest : List ℕ) → cut 8 (n + length own) (R.constantRows levels key c ++ rest) ≡ own ++ cut 8 n rest
@@ -63,6 +72,7 @@ module _ (s : List ℕ) where
     keys : (rest : List (List ℕ)) → Each (KeyRow s) (keyed rest) → Each (KeyRow s) (keyed (own ++ rest))
     enters : (n : ℕ) (rest : List (List ℕ)) → Key s key → Each (KeyRow s) (entries n rest) → Each (KeyRow s) (entries (suc n) (own ++ rest))
 
+  -- and those of several, with any keys, as so many
   record Several {X : Type 0} (levels : ℕ) (key : X → Span) (constant : X → A.Constant Text levels) (xs : List X) : Type 0 where
     all : List (List ℕ)
     cuts : (n : ℕ) (rest : List ℕ) → cut 8 (n + length all) (rows (λ x. R.constantRows levels (key x) (constant x)) xs ++ rest) ≡ all ++ cut 8 n rest
@@ -109,8 +119,13 @@ module _ (s : List ℕ) where
         all = o .own ++ r .all;
         cuts = λ n rest.
             let counts : n + length (o .own ++ r .all) ≡ n + length (r .all) + length (o .own) = omega (arith, length-append (o .own) (r .all)) in
-            rw (counts, append-assoc (words x) (rows words xs) rest, o .cuts (n + length (r .all)) (rows words xs ++ rest),
-            r .cuts n rest, append-assoc (o .own) (r .all) (cut 8 n rest));
+            rw (
+              counts,
+              append-assoc (words x) (rows words xs) rest,
+              o .cuts (n + length (r .all)) (rows words xs ++ rest),
+              r .cuts n rest,
+              append-assoc (o .own) (r .all) (cut 8 n rest),
+            );
         used = λ from. r .used (A.behind Text levels from (constant x)) ∙ omega (arith, o .used from, length-append (o .own) (r .all));
         wide = omega (arith, length-append (words x) (rows words xs), length-append (o .own) (r .all), o .wide, r .wide);
         skips = λ n rest. rw (append-assoc (o .own) (r .all) rest, next n, o .skips (length xs + n) (r .all ++ rest)) (r .skips n rest);
@@ -152,8 +167,14 @@ module _ (s : List ℕ) where
         own = h .words ∷ r .all;
         cuts = λ n rest.
             let counts : n + suc (length (r .all)) ≡ suc (n + length (r .all)) = omega arith in
-            rw (counts, h .front, append-assoc (h .words) inner rest, take-at (h .words) (inner ++ rest) 8 (h .wide),
-            drop-at (h .words) (inner ++ rest) 8 (h .wide), r .cuts n rest);
+            rw (
+              counts,
+              h .front,
+              append-assoc (h .words) inner rest,
+              take-at (h .words) (inner ++ rest) 8 (h .wide),
+              drop-at (h .words) (inner ++ rest) 8 (h .wide),
+              r .cuts n rest,
+            );
         used = λ from. h .used from ∙ r .used (from + 1) ∙ omega arith;
         wide = rw (h .front) (omega (arith, length-append (h .words) inner, h .wide, r .wide));
         skips = λ n rest. ap (λ (k : ℕ). skip (r .all ++ rest) (k + n)) (h .count) ∙ r .skips n rest;
@@ -176,14 +197,6 @@ module _ (s : List ℕ) where
           Each (KeyRow s) (if t then entries (word (h .words) 5) (r .all ++ rest) else [])
       of-map true keys rest = rw (keys .0) (r .enters rest (keys .1))
       of-map false keys rest = tt
-
-  -- a list of constants whose rows have no keys
-  module _ (levels : ℕ) where
-    abbrev unkeyed : A.Constant Text levels → Span
-    unkeyed c = R.nowhere
-
-    abbrev itself : A.Constant Text levels → A.Constant Text levels
-    itself c = c
 
   -- a constant without items
   leaf : (levels : ℕ) (own : Span) (c : A.Constant Text (suc levels)) → length (R.constantRows (suc levels) own c) ≡ 8 → owns (R.constantRows (suc levels) own c) ≡ 0 →
@@ -260,7 +273,8 @@ module _ (s : List ℕ) where
     tagged (A.map entries) ok = map-one entries ok
     tagged (A.blob t) ok = leaf levels own (A.blob t) refl refl refl tt (λ from. refl) (record { known = refl; inside = stands-inside t ok; text = refl; char = refl })
     tagged (A.range from to) ok = leaf levels own (A.range from to) refl refl refl tt (λ from. refl) (record { known = refl; inside = refl; text = refl; char = refl })
-    tagged (A.rangeInclusive from to) ok = leaf levels own (A.rangeInclusive from to) refl refl refl tt (λ from. refl) (record { known = refl; inside = refl; text = refl; char = refl })
+    tagged (A.rangeInclusive from to) ok =
+        leaf levels own (A.rangeInclusive from to) refl refl refl tt (λ from. refl) (record { known = refl; inside = refl; text = refl; char = refl })
     tagged (A.pointer name curried k) ok = pointer-one name curried k (ok .0) (ok .1)
 
   constant-one : (levels : ℕ) (own : Span) (c : A.Constant Text levels) → Told s levels c → One levels own c
@@ -288,8 +302,8 @@ tops s levels cs ok table rest e =
       keys = rw are (r .keys [] tt);
     }
   where
-    r : Several s levels (unkeyed s levels) (itself s levels) cs
-    r = several s levels (constant-one s levels) (unkeyed s levels) (itself s levels) cs ok
+    r : Several s levels (unkeyed levels) (itself levels) cs
+    r = several s levels (constant-one s levels) (unkeyed levels) (itself levels) cs ok
 
     used : foldl (A.behind Text levels) 0 cs ≡ length (r .all)
     used = omega (arith, r .used 0)
