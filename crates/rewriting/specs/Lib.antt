@@ -1,0 +1,2 @@
+-- The words of the promises about writing.
+pub mod Words
