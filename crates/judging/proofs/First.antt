@@ -6,7 +6,7 @@ use borrow.Author.Tests.{not-true, not-false}
 use Rattle.model.specs.Lent.{Lent}
 use Rattle.model.specs.Rules.{rule1, rule2, rule3, rule4, rule5, rule6, rule7, rule8, rule9, rule10}
 use Rattle.model.specs.Written.{firstOfTen, brokenOfTen}
-use Rattle.judging.specs.Standing.{RowsStand, FiveHold}
+use Rattle.judging.specs.Standing.{FiveHold}
 
 -- a call that answers a test, and the branch that was taken on it
 pub holds : {answer test : Bool} → answer ≡ test → not answer ≡ false → test ≡ true

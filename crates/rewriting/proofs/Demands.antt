@@ -1,5 +1,5 @@
 -- The demands on the writer, as theorems about what `writing::write` and `reading::read` answer and leave.
-use Prim.Native.Nat.{ℕ, zero, suc, _+_, _≤_, _<_}
+use Prim.Native.Nat.{ℕ, zero, suc, _+_, _≤_}
 use mathlib.Core.Bool.{Bool, true, false}
 use mathlib.Core.Path.{_≡_, refl, sym, _∙_, ap}
 use mathlib.Core.List.{List, [], _∷_, _++_}
@@ -9,18 +9,15 @@ use borrow.Author.Tests.{le-leb}
 use lib.ListN.{length, take}
 use Rattle.grammar.specs.declared.Cursor.{Cursor}
 use Rattle.grammar.specs.Outcome.{Outcome, got}
-use Rattle.grammar.specs.RoundTrip.{Read}
 use Rattle.format.specs.Artifact as A
-use Rattle.format.specs.File as definition
 use Rattle.format.specs.Rows.{tablesOf}
 use Rattle.format.specs.declared.answer.Artifact.{Artifact}
 use Rattle.format.specs.declared.answer.Answer.{Answer}
 use Rattle.rows.specs.Given.{Bytes}
-use Rattle.reading.specs.Answer.{placesOf, outside, answerOf, tablesAfter, Answered}
+use Rattle.reading.specs.Answer.{placesOf, outside, answerOf, Answered}
 use Rattle.varint.specs.declared.Written.{Written}
 use Rattle.written.specs.Meaning.{Meaning, mean}
 use Rattle.written.specs.Put.{put}
-use Rattle.written.specs.Strip.{strip}
 use Rattle.written.specs.WellFormed.{WellFormed}
 use Rattle.written.proofs.Whole as whole
 use Rattle.written.proofs.Stripped.{stripped-well-formed}
@@ -37,7 +34,7 @@ use Rattle.promises.proofs.Back.{begin-front}
 use Rattle.promises.proofs.Demands.{acceptance-fills}
 use Rattle.returned.specs.Lending.{lentOf}
 use Rattle.returned.proofs.Returned.{means-what-was-read, rules-hold}
-use Rattle.rewriting.specs.Words.{Wrote, bytesIn, Sound, AcceptedMeaning, placesFor}
+use Rattle.rewriting.specs.Words.{Wrote, bytesIn, AcceptedMeaning, placesFor}
 use Rattle.rewriting.proofs.Sounds.{sound}
 
 -- ── what was written ──
@@ -63,7 +60,7 @@ module _ (t1 t2 t3 t4 t5 t6 t7 t8 t9 t10 t11 t12 t13 : List ℕ) where
   tables = t1 ∷ t2 ∷ t3 ∷ t4 ∷ t5 ∷ t6 ∷ t7 ∷ t8 ∷ t9 ∷ t10 ∷ t11 ∷ t12 ∷ t13 ∷ []
 
   module _ {mask : ℕ} {s : List ℕ} {exit : List (List ℕ)} {a : Artifact} (read : Answered mask s tables exit (Answer.Accepted a)) (bytes : Bytes s) where
-    accepted : AcceptedAs mask s tables exit a
+    pub accepted : AcceptedAs mask s tables exit a
     accepted = acceptance-fills t1 t2 t3 t4 t5 t6 t7 t8 t9 t10 t11 t12 t13 read
 
     begins : Begin exit (tablesOf (accepted .what))
@@ -72,17 +69,20 @@ module _ (t1 t2 t3 t4 t5 t6 t7 t8 t9 t10 t11 t12 t13 : List ℕ) where
     -- demand 2: the tables of an accepted read mean what was read
     pub read-means : meaningOf (lentOf a exit s) ≡ mean (accepted .what)
     read-means =
-        rw (accepted .answers)
-        (means-what-was-read (placesOf tables) mask s bytes (accepted .what) (accepted .last) (accepted .read) exit begins)
+        ap (λ (o : Artifact). meaningOf (lentOf o exit s)) (accepted .answers)
+        ∙ means-what-was-read (placesOf tables) mask s bytes (accepted .what) (accepted .last) (accepted .read) exit begins
 
     -- and they keep the rules under the same mask, in either way of writing
     bytes-are : (stripped : Bool) → bytesOf stripped (lentOf a exit s) ≡ put (inWay stripped (mean (accepted .what)))
     unfolding bytesOf
     bytes-are stripped = rw read-means
 
+    kept-no-longer : length (put (mean (accepted .what))) ≤ length s
+    kept-no-longer = accepted-shorter (placesOf tables) mask s (accepted .what) (accepted .last) (accepted .read)
+
     no-longer : (stripped : Bool) → length (put (inWay stripped (mean (accepted .what)))) ≤ length s
-    no-longer false = accepted-shorter (placesOf tables) mask s (accepted .what) (accepted .last) (accepted .read)
-    no-longer true = le-trans (stripped-shorter (mean (accepted .what))) (no-longer false)
+    no-longer false = kept-no-longer
+    no-longer true = le-trans (stripped-shorter (mean (accepted .what))) kept-no-longer
 
     pub rewritten-no-longer : (stripped : Bool) → length (bytesOf stripped (lentOf a exit s)) ≤ length s
     rewritten-no-longer stripped = rw (bytes-are stripped) (no-longer stripped)
@@ -92,7 +92,8 @@ module _ (t1 t2 t3 t4 t5 t6 t7 t8 t9 t10 t11 t12 t13 : List ℕ) where
     read-keeps-the-rules stripped =
         let short = accepted-short (placesOf tables) mask s (accepted .what) (accepted .last) (accepted .read) in
         let ten : brokenOfTen mask (lentOf a exit s) ≡ 0 =
-            rw (accepted .answers) (rules-hold (placesOf tables) mask s bytes (accepted .what) (accepted .last) (accepted .read) exit begins) in
+        ap (λ (o : Artifact). brokenOfTen mask (lentOf o exit s)) (accepted .answers)
+        ∙ rules-hold (placesOf tables) mask s bytes (accepted .what) (accepted .last) (accepted .read) exit begins in
         rw (ten, le-leb _ _ (le-trans (rewritten-no-longer stripped) short))
 
     -- so they are written wherever the file that was read would have had room
@@ -105,16 +106,16 @@ module _ (t1 t2 t3 t4 t5 t6 t7 t8 t9 t10 t11 t12 t13 : List ℕ) where
     -- well-formed: shortest numbers outside the position table, 0 0 where there is no position, and 0 or 1 for inclusive
     pub own-bytes-back : (m : Meaning) → WellFormed (placesOf tables) mask m → put m ≡ s → bytesOf false (lentOf a exit s) ≡ s
     own-bytes-back m ok is =
-        let r = whole.written-read-back (placesOf tables) mask m ok (rw is (accepted-short (placesOf tables) mask s (accepted .what) (accepted .last) (accepted .read))) in
-        let same : mean (accepted .what) ≡ m =
-            sym (ap mean (got-same (sym (r .result) ∙ rw is (accepted .read)))) ∙ r .means in
-        bytes-are false ∙ rw same is
+        let short = accepted-short (placesOf tables) mask s (accepted .what) (accepted .last) (accepted .read) in
+        let r = whole.written-read-back (placesOf tables) mask m ok (rw is short) in
+        let e = rw is at (r .result) in
+        bytes-are false ∙ rw (got-same (sym (accepted .read) ∙ e), r .means) is
 
     pub own-bytes-only : bytesOf false (lentOf a exit s) ≡ s → (m : Meaning) × (WellFormed (placesOf tables) mask m × (put m ≡ s))
-    own-bytes-only is =
-        (mean (accepted .what),
-        accepted-well-formed (placesOf tables) mask s bytes (accepted .what) (accepted .last) (accepted .read),
-        sym (bytes-are false) ∙ is)
+    own-bytes-only is = (
+      mean (accepted .what),
+      (accepted-well-formed (placesOf tables) mask s bytes (accepted .what) (accepted .last) (accepted .read), sym (bytes-are false) ∙ is),
+    )
 
   -- ── demand 2: written and read back ──
 
@@ -125,7 +126,8 @@ module _ (t1 t2 t3 t4 t5 t6 t7 t8 t9 t10 t11 t12 t13 : List ℕ) where
   written-read-back {mask} {stripped} {m} {n} call native bytes {exit} {answer} read room =
       let ok = sound call in
       let r = whole.written-read-back (placesOf tables) mask (inWay stripped (meaningOf m)) (well-in stripped (placesOf tables) mask m native room (ok .rules)) (ok .short) in
-      let e : definition.read (placesOf tables) mask (bytesIn call) ≡ got (r .value) _ = rw (ok .bytes) (r .result) in
+      let is : bytesIn call ≡ put (inWay stripped (meaningOf m)) = ok .bytes in
+      let e = rw (← is) at (r .result) in
       let answers : answer ≡ Answer.Accepted (outside (r .value)) = read .result ∙ ap answerOf e in
       let accepting : Answered mask (bytesIn call) tables exit (Answer.Accepted (outside (r .value))) = rw answers at read in
       let taken : Bytes (bytesIn call) = bytes-taken n (call .exit) bytes in
@@ -141,16 +143,36 @@ module _ (m n : Lent) where
   room-first : Room (placesFor m n) m
   room-first =
       record {
-        names = omega arith; constants = omega arith; tokens = omega arith; assigns = omega arith; chains = omega arith; steps = omega arith;
-        switches = omega arith; cases = omega arith; ranges = omega arith; customs = omega arith; inputs = omega arith; functions = omega arith;
+        names = omega arith;
+        constants = omega arith;
+        tokens = omega arith;
+        assigns = omega arith;
+        chains = omega arith;
+        steps = omega arith;
+        switches = omega arith;
+        cases = omega arith;
+        ranges = omega arith;
+        customs = omega arith;
+        inputs = omega arith;
+        functions = omega arith;
         parameters = omega arith;
       }
 
   room-second : Room (placesFor m n) n
   room-second =
       record {
-        names = omega arith; constants = omega arith; tokens = omega arith; assigns = omega arith; chains = omega arith; steps = omega arith;
-        switches = omega arith; cases = omega arith; ranges = omega arith; customs = omega arith; inputs = omega arith; functions = omega arith;
+        names = omega arith;
+        constants = omega arith;
+        tokens = omega arith;
+        assigns = omega arith;
+        chains = omega arith;
+        steps = omega arith;
+        switches = omega arith;
+        cases = omega arith;
+        ranges = omega arith;
+        customs = omega arith;
+        inputs = omega arith;
+        functions = omega arith;
         parameters = omega arith;
       }
 

@@ -1,7 +1,7 @@
 -- What a call of `writing::write` that wrote something says, by its contract.
-use Prim.Native.Nat.{ℕ, zero, suc, _≤_}
+use Prim.Native.Nat.{ℕ, zero, suc}
 use mathlib.Core.Bool.{Bool, true, false}
-use mathlib.Core.Path.{_≡_, refl, sym, _∙_, ap}
+use mathlib.Core.Path.{_≡_, refl, ap}
 use mathlib.Core.List.{List, _++_}
 use native.Mathlib.Omega.{arith}
 use borrow.Author.Tests.{leb-true}
@@ -12,8 +12,8 @@ use Rattle.refusal.specs.declared.Refusal.{Refusal}
 use Rattle.grammar.specs.Combinators.{if_then_else_}
 use Rattle.varint.specs.declared.Written.{Written}
 use Rattle.model.specs.Lent.{Lent}
-use Rattle.model.specs.Written.{brokenOfTen, rule11, elseEleven, lowestBroken, bytesOf, roomed, inFront, answered, left, Writes}
-use Rattle.rewriting.specs.Words.{Wrote, bytesIn, Sound}
+use Rattle.model.specs.Written.{brokenOfTen, rule11, elseEleven, lowestBroken, bytesOf, roomed, inFront, answered, left}
+use Rattle.rewriting.specs.Words.{Wrote, Sound}
 
 done-refused : {n : ℕ} {r : Refusal} → Written.Done n ≡ Written.Refused r → ⊥
 done-refused e = let z : _≡_ {A = ℕ} 0 1 = cc in omega arith
