@@ -15,7 +15,7 @@ use Rattle.emit.specs.Headers.{headerOf}
 use Rattle.emit.specs.Shares.{chainsOf, sitesOf, functionsOf, switchesOf}
 use Rattle.emit.specs.Constants.{constantsOf}
 
-abbrev pub frontBytes : Artifact → (ends constants tokens assigns text : List ℕ) → List ℕ
+unfoldable pub frontBytes : Artifact → (ends constants tokens assigns text : List ℕ) → List ℕ
 frontBytes o ends constants tokens assigns text =
     putHeader (headerOf (o .header))
     ++ (putBytes (clip text (o .source))
@@ -30,7 +30,7 @@ abbrev pub tableIn : Bool → List ℕ → Span → List ℕ
 tableIn false text span = clip text span
 tableIn true text span = []
 
-abbrev pub backBytes : Bool → Artifact → (chains steps switches cases ranges customs inputs functions parameters text : List ℕ) → List ℕ
+unfoldable pub backBytes : Bool → Artifact → (chains steps switches cases ranges customs inputs functions parameters text : List ℕ) → List ℕ
 backBytes stripped o chains steps switches cases ranges customs inputs functions parameters text =
     putList putChain (chainsIn stripped (chainsOf chains (o .used .chains) steps))
     ++ (putList putSwitch (switchesOf switches (o .used .switches) cases ranges)
