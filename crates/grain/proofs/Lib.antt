@@ -1,4 +1,5 @@
 -- What the proofs of the exported functions share.
 pub mod Halves
 pub mod Telling
+pub mod Written
 pub mod Told

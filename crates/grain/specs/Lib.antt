@@ -2,3 +2,4 @@
 pub mod Numbers
 pub mod Positions
 pub mod Words
+pub mod Heading

@@ -4,6 +4,8 @@
 // in the places lent to it. None asks anything of what it is given.
 
 mod answer;
+mod heading;
 pub mod numbers;
 mod positions;
 mod read;
+mod write;

@@ -14,14 +14,14 @@ use pos::Encoded;
 use pos::Resolved;
 use refusal::Row;
 
-fn put_values(values: &mut [u64; 2], row: Row)
+pub fn put_values(values: &mut [u64; 2], row: Row)
     ensures { λ _. ⌜ now (values .exit) ≡ valuesOf row ⌝ }
 {
     *values = [row.first, row.second];
 }
 
 // No refusal, and a value that was got.
-fn got_row(value: u64) -> Row
+pub fn got_row(value: u64) -> Row
     ensures { λ r. ⌜ r ≡ rowIs 0 value 0 ⌝ }
 {
     Row {
