@@ -1,39 +1,32 @@
 //! An artifact that was accepted: what stands outside of the tables, and the tables' rows as records.
 
 use crate::records::{Assign, Chain, Chunk, ConstantIndex, Function, NameIndex, OperatorIndex, Site, Switch};
-use crate::rows::{span, text, Row, Rows, Source};
-use crate::sys::ANSWER_WORDS;
-use crate::{Constant, Constants, Table};
+use crate::rows::{Row, Rows, Source};
+use crate::{Constant, Constants, Heading, Model, StepFlags, Table};
 
 /// An artifact that was accepted. It borrows the bytes, and the tables that were lent to read them.
 #[derive(Clone, Copy, Debug)]
 pub struct Artifact<'a> {
     bytes: &'a [u8],
-    answer: [u64; ANSWER_WORDS],
+    mask: StepFlags,
+    heading: Heading,
     tables: [&'a [u64]; 13],
 }
 
-// The places of an answer's words, as `enum grain_answer` of `include/grain.h` has them.
-const CAPS: usize = 3;
-const DEBUG_ID_LOW: usize = 4;
-const DEBUG_ID_HIGH: usize = 5;
-const SOURCE: usize = 6;
-const BLOB: usize = 8;
-const CODE: usize = 10;
-const POSITIONS: usize = 12;
-const MAIN: usize = 14;
-const TOP_CONSTANTS: usize = 17;
-const ROWS: usize = 18;
-
 impl<'a> Artifact<'a> {
     /// What the reader answered where it accepted. The tables are cut to the rows that are used.
-    pub(crate) fn new(bytes: &'a [u8], answer: [u64; ANSWER_WORDS], lent: [&'a [u64]; 13]) -> Self {
+    pub(crate) fn new(bytes: &'a [u8], mask: StepFlags, heading: Heading, lent: [&'a [u64]; 13]) -> Self {
         let mut tables = lent;
         for table in Table::ALL {
-            let used = answer[ROWS + table.at()] as usize * table.words();
+            let used = heading.rows[table.at()] * table.words();
             tables[table.at()] = lent[table.at()].get(..used).unwrap_or_default();
         }
-        Artifact { bytes, answer, tables }
+        Artifact { bytes, mask, heading, tables }
+    }
+
+    /// All of it as the words that it is kept in, to be changed and written.
+    pub fn model(&self) -> Model<'a> {
+        Model { heading: self.heading, tables: self.tables, text: self.bytes, mask: self.mask }
     }
 
     /// The bytes that were read.
@@ -48,23 +41,23 @@ impl<'a> Artifact<'a> {
 
     /// The capabilities that the script asks for, as bits.
     pub fn caps(&self) -> u32 {
-        self.answer[CAPS] as u32
+        self.heading.caps
     }
 
     /// What names the diagnostics that were compiled with it.
     pub fn debug_id(&self) -> u128 {
-        u128::from(self.answer[DEBUG_ID_HIGH]) << 64 | u128::from(self.answer[DEBUG_ID_LOW])
+        self.heading.debug_id
     }
 
     /// The name of the source, where it has one.
     pub fn source(&self) -> Option<&'a str> {
-        let name = text(self.bytes, self.answer[SOURCE], self.answer[SOURCE + 1]);
+        let name = self.heading.source.text(self.bytes);
         (!name.is_empty()).then_some(name)
     }
 
     /// The text of all names.
     pub fn blob(&self) -> &'a str {
-        text(self.bytes, self.answer[BLOB], self.answer[BLOB + 1])
+        self.heading.blob.text(self.bytes)
     }
 
     /// The names, in their order.
@@ -81,12 +74,12 @@ impl<'a> Artifact<'a> {
             after => *ends.get(after as usize - 1)?,
         };
         // Not by way of `blob`, which tests all of the text.
-        span(self.bytes, self.answer[BLOB], self.answer[BLOB + 1]).get(start as usize..end as usize)
+        self.heading.blob.bytes(self.bytes).get(start as usize..end as usize)
     }
 
     /// The top constants.
     pub fn constants(&self) -> Constants<'a> {
-        Constants::new(self.bytes, self.table(Table::Constants), self.answer[TOP_CONSTANTS])
+        Constants::new(self.bytes, self.table(Table::Constants), self.heading.top_constants as u64)
     }
 
     /// A top constant. It walks those before it: where many are looked up, collect [`Artifact::constants`].
@@ -127,7 +120,7 @@ impl<'a> Artifact<'a> {
 
     /// The chunk that runs first.
     pub fn main(&self) -> Chunk {
-        Chunk::of(self.answer[MAIN], self.answer[MAIN + 1], self.answer[MAIN + 2])
+        self.heading.main
     }
 
     /// The functions.
@@ -137,12 +130,12 @@ impl<'a> Artifact<'a> {
 
     /// The code. The reader takes it as it stands.
     pub fn code(&self) -> &'a [u8] {
-        span(self.bytes, self.answer[CODE], self.answer[CODE + 1])
+        self.heading.code.bytes(self.bytes)
     }
 
     /// The position table, for [`pos`](crate::pos); empty where the artifact was stripped.
     pub fn positions(&self) -> &'a [u8] {
-        span(self.bytes, self.answer[POSITIONS], self.answer[POSITIONS + 1])
+        self.heading.positions.bytes(self.bytes)
     }
 
     fn rows<R: Row<'a>>(&self, table: Table, items: [&'a [u64]; 2]) -> Rows<'a, R> {

@@ -1,6 +1,6 @@
 //! An artifact that owns its bytes and its tables.
 
-use crate::{sys, Artifact, Refusal, StepFlags, Table, Tables};
+use crate::{sys, Artifact, Heading, Refusal, StepFlags, Table, Tables};
 use std::vec::Vec;
 
 /// An artifact with its bytes and its tables, for those who have an allocator.
@@ -20,7 +20,8 @@ use std::vec::Vec;
 #[derive(Clone, Debug)]
 pub struct OwnedArtifact {
     bytes: Vec<u8>,
-    answer: [u64; sys::ANSWER_WORDS],
+    mask: StepFlags,
+    heading: Heading,
     tables: [Vec<u64>; 13],
 }
 
@@ -40,7 +41,7 @@ impl OwnedArtifact {
             let answer = sys::read(&bytes, mask.0, &mut lent(&mut tables));
             let [number, first, second, ..] = answer;
             if number == 0 {
-                return Ok(OwnedArtifact { bytes, answer, tables });
+                return Ok(OwnedArtifact { bytes, mask, heading: Heading::of(&answer), tables });
             }
             match Refusal::of([number, first, second]) {
                 Refusal::Full { table } if grow(&mut tables[table.at()], table, bytes.len()) => {}
@@ -51,7 +52,7 @@ impl OwnedArtifact {
 
     /// The artifact, to be looked at.
     pub fn artifact(&self) -> Artifact<'_> {
-        Artifact::new(&self.bytes, self.answer, self.tables.each_ref().map(Vec::as_slice))
+        Artifact::new(&self.bytes, self.mask, self.heading, self.tables.each_ref().map(Vec::as_slice))
     }
 }
 

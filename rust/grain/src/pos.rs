@@ -50,7 +50,7 @@ pub struct Entry {
 /// assert_eq!(pos::check(&[0, 0]), Err(Refusal::Positions(PositionsFault::Trailing { count: 1 })));
 /// ```
 pub fn check(table: &[u8]) -> Result<(), Refusal> {
-    answered(sys::pos_check(table)).map(|_| ())
+    Refusal::answered(sys::pos_check(table)).map(|_| ())
 }
 
 /// How many entries a table says that it has.
@@ -82,7 +82,7 @@ pub fn resolve(table: &[u8], address: u32) -> Option<Site> {
 /// [`Refusal::TooLong`], [`Refusal::NotAscending`], or [`Refusal::NoRoom`] with the bytes that are needed; `out` stays as it
 /// was.
 pub fn encode(addresses: &[u32], lines: &[u32], columns: &[u32], out: &mut [u8]) -> Result<usize, Refusal> {
-    answered(sys::pos_encode(addresses, lines, columns, out)).map(|size| size as usize)
+    Refusal::answered(sys::pos_encode(addresses, lines, columns, out)).map(|size| size as usize)
 }
 
 /// The entries of a table, in their order, sites of line 0 too. It ends at the first fault, so [`check`] the table first.
@@ -131,14 +131,6 @@ impl Iterator for Entries<'_> {
             self.left = 0;
         }
         entry
-    }
-}
-
-/// The first value, or the refusal.
-fn answered(row: [u64; 3]) -> Result<u64, Refusal> {
-    match row {
-        [0, value, _] => Ok(value),
-        refused => Err(Refusal::of(refused)),
     }
 }
 

@@ -1,6 +1,6 @@
 //! Reading an artifact into what is lent.
 
-use crate::{sys, Artifact, Refusal, StepFlags, Tables};
+use crate::{sys, Artifact, Heading, Refusal, StepFlags, Tables};
 
 /// The bytes that an artifact may have at most.
 pub const MAX_BYTES: usize = 1_048_576;
@@ -25,7 +25,7 @@ pub fn read<'t>(bytes: &'t [u8], mask: StepFlags, tables: &'t mut Tables<'_>) ->
     if number != 0 {
         return Err(Refusal::of([number, first, second]));
     }
-    Ok(Artifact::new(bytes, answer, tables.shared()))
+    Ok(Artifact::new(bytes, mask, Heading::of(&answer), tables.shared()))
 }
 
 /// Whether the bytes are UTF-8, as RFC 3629 has it.

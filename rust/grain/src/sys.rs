@@ -42,6 +42,42 @@ extern "C" {
         n13: usize,
         answer: *mut [u64; ANSWER_WORDS],
     ) -> u64;
+    fn grain_write(
+        heading: *const [u64; ANSWER_WORDS],
+        names: *const u64,
+        n1: usize,
+        constants: *const u64,
+        n2: usize,
+        tokens: *const u64,
+        n3: usize,
+        assigns: *const u64,
+        n4: usize,
+        chains: *const u64,
+        n5: usize,
+        steps: *const u64,
+        n6: usize,
+        switches: *const u64,
+        n7: usize,
+        cases: *const u64,
+        n8: usize,
+        ranges: *const u64,
+        n9: usize,
+        customs: *const u64,
+        n10: usize,
+        inputs: *const u64,
+        n11: usize,
+        functions: *const u64,
+        n12: usize,
+        parameters: *const u64,
+        n13: usize,
+        text: *const u8,
+        text_len: usize,
+        mask: u8,
+        strip: u8,
+        out: *mut u8,
+        room: usize,
+        values: *mut [u64; 2],
+    ) -> u64;
     fn grain_pos_check(table: *const u8, len: usize, values: *mut [u64; 2]) -> u64;
     fn grain_pos_count(table: *const u8, len: usize, count: *mut u64) -> u64;
     fn grain_pos_resolve(table: *const u8, len: usize, address: u32, site: *mut [u64; 2]) -> u64;
@@ -86,6 +122,46 @@ pub fn read(bytes: &[u8], mask: u8, t: &mut Tables<'_>) -> [u64; ANSWER_WORDS] {
         )
     };
     answer
+}
+
+/// What is lent to be written, as the archive takes it.
+pub struct Lent<'a> {
+    /// Laid out as an answer; the first three words and the last one are not looked at.
+    pub heading: [u64; ANSWER_WORDS],
+    pub tables: [&'a [u64]; 13],
+    /// What the spans cut.
+    pub text: &'a [u8],
+    pub mask: u8,
+}
+
+/// Writes tables: the refusal's number or 0, and its two values or the bytes written.
+pub fn write(lent: &Lent<'_>, strip: bool, out: &mut [u8]) -> [u64; 3] {
+    let mut values = [0; 2];
+    let [t1, t2, t3, t4, t5, t6, t7, t8, t9, t10, t11, t12, t13] = lent.tables;
+    // SAFETY: as the head of this file says.
+    #[rustfmt::skip]
+    let number = unsafe {
+        grain_write(
+            &lent.heading,
+            t1.as_ptr(), t1.len(),
+            t2.as_ptr(), t2.len(),
+            t3.as_ptr(), t3.len(),
+            t4.as_ptr(), t4.len(),
+            t5.as_ptr(), t5.len(),
+            t6.as_ptr(), t6.len(),
+            t7.as_ptr(), t7.len(),
+            t8.as_ptr(), t8.len(),
+            t9.as_ptr(), t9.len(),
+            t10.as_ptr(), t10.len(),
+            t11.as_ptr(), t11.len(),
+            t12.as_ptr(), t12.len(),
+            t13.as_ptr(), t13.len(),
+            lent.text.as_ptr(), lent.text.len(), lent.mask, strip.into(),
+            out.as_mut_ptr(), out.len(),
+            &mut values,
+        )
+    };
+    [number, values[0], values[1]]
 }
 
 /// Checks a position table: the refusal's number or 0, and its two values.

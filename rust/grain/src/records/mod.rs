@@ -41,7 +41,7 @@ pub struct Position {
 }
 
 /// A run of code, and the slots that it needs.
-#[derive(Clone, Copy, Debug, PartialEq, Eq)]
+#[derive(Clone, Copy, Debug, Default, PartialEq, Eq)]
 pub struct Chunk {
     /// The address of its first instruction.
     pub entry: u32,

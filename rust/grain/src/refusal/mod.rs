@@ -121,7 +121,8 @@ pub enum Refusal {
     },
     /// 15: tables that are to be written break a rule.
     BadModel {
-        /// The lowest broken rule.
+        /// The lowest broken rule, 1 to 11: `enum grain_rule` of `include/grain.h` lists them, and this refusal's text has
+        /// them in words.
         rule: u8,
     },
     /// 16: the output is too small.

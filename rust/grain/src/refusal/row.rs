@@ -54,6 +54,14 @@ impl Refusal {
             _ => Refusal::NotAscending { address: first as u32, earlier: second as u32 },
         }
     }
+
+    /// The first value of a function that answers a number and two values, where the number is 0; else the refusal.
+    pub(crate) fn answered(row: [u64; 3]) -> Result<u64, Refusal> {
+        match row {
+            [0, value, _] => Ok(value),
+            refused => Err(Refusal::of(refused)),
+        }
+    }
 }
 
 impl Place {

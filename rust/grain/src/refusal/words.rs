@@ -23,10 +23,27 @@ impl fmt::Display for Refusal {
             Refusal::Positions(fault) => write!(f, ": {fault}"),
             Refusal::TrailingBytes { count } => write!(f, ": {count} behind the end"),
             Refusal::Full { table } => write!(f, ": table {}, {}", table.number(), table.name()),
-            Refusal::BadModel { rule } => write!(f, ": rule {rule}"),
+            Refusal::BadModel { rule } => write!(f, ": rule {rule}, {}", broken(rule)),
             Refusal::NoRoom { needed } => write!(f, ": {needed} needed"),
             Refusal::NotAscending { address, earlier } => write!(f, ": address {address} behind {earlier}"),
         }
+    }
+}
+
+/// What is wrong where a rule is broken.
+fn broken(rule: u8) -> &'static str {
+    match rule {
+        1 => "a count or a share does not fit its table",
+        2 => "a span lies outside of the text",
+        3 => "a string is not UTF-8",
+        4 => "the names do not fit their text",
+        5 => "a tag or an access is not known, or a flag is outside of the mask",
+        6 => "a constant stands inside of more than 64 others",
+        7 => "a char is no Unicode scalar",
+        8 => "a case names no top constant",
+        9 => "a number does not fit its kind",
+        10 => "the position table is not sound",
+        _ => "the artifact would be longer than 1048576 bytes",
     }
 }
 

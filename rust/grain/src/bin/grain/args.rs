@@ -45,6 +45,12 @@ impl Args {
         given.map(|(_, value)| value.as_os_str())
     }
 
+    /// The file that the output goes to; none where it is standard output, which `-` is too.
+    pub fn output(&self) -> Option<&OsStr> {
+        let given = self.value("-o").or(self.value("--output"));
+        given.filter(|name| *name != "-")
+    }
+
     /// The one plain word of a command that takes one.
     pub fn only(&self, what: &str) -> Result<&OsStr, Failure> {
         match self.plain.as_slice() {

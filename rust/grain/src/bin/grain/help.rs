@@ -6,13 +6,15 @@ use std::io::Write;
 const ALL: &str = "\
 usage: grain COMMAND [WORD..]
 
-Looks at Rhai Grain artifacts through the proved loader.
+Looks at Rhai Grain artifacts, and writes them anew, through functions that are proved.
 
   check FILE..              accepted or refused, a line a file
   dump FILE                 every section, readable, or as JSON
   positions FILE            the entries of the position table
   resolve TABLE ADDRESS..   the places in the source of addresses
   debug-id TABLE CHAINS     what names a position table and chain bytes
+  rewrite FILE -o OUT       writes an artifact anew, every number in its shortest form
+  strip FILE -o OUT         the same without positions; --positions TABLE saves these
   sample                    writes an artifact to try all this on
 
 `grain COMMAND --help` says more. A file `-` is standard input.
@@ -85,12 +87,46 @@ that they belong to has the same id: `grain dump` shows it.
 Exit status: 0 answered, 2 usage or a file that cannot be read.
 ";
 
+const REWRITE: &str = "\
+usage: grain rewrite [--mask HEX] [-o OUT] FILE
+
+Writes an artifact anew. It means the same and is no longer than before: every number has its shortest form, a position without
+a line has no column, and what says yes is 1. A second time changes nothing.
+
+  -o, --output OUT    to this file; without it, or where it is -, to standard output
+  --mask HEX          the step flags that are known, a byte (default 01)
+
+OUT is written whole or not at all: in full beside its place, as .grain-*.tmp in the same folder, and then moved into it. A file
+that is there is replaced, and OUT may be FILE itself. On any failure OUT is as it was, and nothing is left beside it; only a run
+that is killed leaves its .grain-*.tmp there.
+
+Exit status: 0 written, 1 refused, and nothing is written, 2 usage or a file that cannot be read or written.
+";
+
+const STRIP: &str = "\
+usage: grain strip [--positions TABLE] [--mask HEX] [-o OUT] FILE
+
+Writes an artifact without positions: its position table is empty, and every position in a chain is none. All else, the debug id
+too, is as `grain rewrite` writes it.
+
+  --positions TABLE    saves the position table of FILE in this file: `grain resolve TABLE ADDRESS..` looks addresses up there.
+                       A FILE that has none is refused. The positions in chains are not saved: keep FILE where they matter
+  -o, --output OUT     to this file; without it, or where it is -, to standard output
+  --mask HEX           the step flags that are known, a byte (default 01)
+
+OUT and TABLE are written whole or not at all: both in full beside their places, as .grain-*.tmp in the same folder, and then
+moved, first TABLE, then OUT. Files that are there are replaced, and OUT may be FILE itself. On any failure OUT is as it was, and
+nothing is left beside it; only a run that is killed leaves its .grain-*.tmp there.
+
+Exit status: 0 written, 1 refused, and nothing is written, 2 usage or a file that cannot be read or written.
+";
+
 const SAMPLE: &str = "\
 usage: grain sample [-o FILE]
 
 Writes a small artifact with something in every section.
 
-  -o, --output FILE    to this file, and not to standard output
+  -o, --output FILE    to this file; without it, or where it is -, to standard output
 
 Exit status: 0 written, 2 usage or a file that cannot be written.
 ";
@@ -114,6 +150,8 @@ pub fn of(command: &str, out: &mut dyn Write) -> Result<Status, Failure> {
         "positions" => POSITIONS,
         "resolve" => RESOLVE,
         "debug-id" => DEBUG_ID,
+        "rewrite" => REWRITE,
+        "strip" => STRIP,
         "sample" => SAMPLE,
         _ => return Err(unknown(command)),
     };

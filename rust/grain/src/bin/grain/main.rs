@@ -1,4 +1,4 @@
-//! The command line `grain`: looks at Rhai Grain artifacts through the proved loader.
+//! The command line `grain`: looks at Rhai Grain artifacts, and writes them anew, through the proved functions.
 mod args;
 mod check;
 mod debug_id;
@@ -10,7 +10,9 @@ mod output;
 mod positions;
 mod progress;
 mod resolve;
+mod rewrite;
 mod sample;
+mod save;
 mod shown;
 mod status;
 mod writer;
@@ -64,6 +66,8 @@ fn run(words: &[OsString], out: &mut dyn Write) -> Result<Status, Failure> {
         "positions" => positions::run(words, out),
         "resolve" => resolve::run(words, out),
         "debug-id" => debug_id::run(words, out),
+        "rewrite" => rewrite::rewrite(words, out),
+        "strip" => rewrite::strip(words, out),
         "sample" => sample::run(words, out),
         _ => Err(help::unknown(command)),
     }

@@ -12,11 +12,17 @@ pub fn open() -> Box<dyn Write> {
     }
 }
 
-/// Bytes that are no text, unless a reader sits there.
-pub fn bytes(bytes: &[u8], out: &mut dyn Write) -> Result<(), Failure> {
+/// Whether bytes that are no text may be written there: not where a reader sits.
+pub fn takes_bytes() -> Result<(), Failure> {
     if io::stdout().is_terminal() {
         return Err(Failure::usage("bytes are not written to a terminal: send them to a file"));
     }
+    Ok(())
+}
+
+/// Bytes that are no text.
+pub fn bytes(bytes: &[u8], out: &mut dyn Write) -> Result<(), Failure> {
+    takes_bytes()?;
     out.write_all(bytes)?;
     Ok(())
 }

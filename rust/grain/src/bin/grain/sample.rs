@@ -11,7 +11,7 @@ pub fn run(words: &[OsString], out: &mut dyn Write) -> Result<Status, Failure> {
     if !args.plain.is_empty() {
         return Err(Failure::usage("the sample goes to standard output, or to the file behind `-o`"));
     }
-    match args.value("-o").or(args.value("--output")) {
+    match args.output() {
         Some(name) => fs::write(name, artifact()).map_err(|why| Failure::file(name, why))?,
         None => output::bytes(&artifact(), out)?,
     }
