@@ -68,6 +68,32 @@ static void encoding(void)
     HOLDS(memcmp(out, table, sizeof table) == 0 && out[8] == 0xEE);
 }
 
+/* Thirteen tables without a row. A pointer is never null, so they stand at a word that is not theirs. */
+#define NO_ROWS(w) w, 0, w, 0, w, 0, w, 0, w, 0, w, 0, w, 0, w, 0, w, 0, w, 0, w, 0, w, 0, w, 0
+
+/* The least artifact from a heading of zeros, and what is refused. */
+static void writing(void)
+{
+    static const uint8_t start[] = {'R', 'G', 'R', 'N', 11, 0, 8, 8}, text[] = {'a'};
+    uint64_t heading[GRAIN_ANSWER_WORDS] = {0}, word = 0, values[2];
+    uint8_t out[44];
+
+    memset(out, 0xEE, sizeof out);
+    HOLDS(grain_write(heading, NO_ROWS(&word), text, 0, 1, 0, out, 42, values) == GRAIN_NO_ROOM);
+    HOLDS(values[0] == 43 && values[1] == 0 && out[0] == 0xEE);
+    heading[GRAIN_ANSWER_MAIN_SLOTS] = 65536;
+    HOLDS(grain_write(heading, NO_ROWS(&word), text, 0, 1, 0, out, 44, values) == GRAIN_BAD_MODEL);
+    HOLDS(values[0] == GRAIN_RULE_NUMBERS && values[1] == 0 && out[0] == 0xEE);
+    heading[GRAIN_ANSWER_CODE_LENGTH] = 1;
+    HOLDS(grain_write(heading, NO_ROWS(&word), text, 0, 1, 0, out, 44, values) == GRAIN_BAD_MODEL);
+    HOLDS(values[0] == GRAIN_RULE_SPANS && values[1] == 0 && out[0] == 0xEE);
+    heading[GRAIN_ANSWER_CODE_LENGTH] = heading[GRAIN_ANSWER_MAIN_SLOTS] = 0;
+    heading[GRAIN_ANSWER_NUMBER] = heading[GRAIN_ANSWER_WORDS - 1] = 9;
+    HOLDS(grain_write(heading, NO_ROWS(&word), text, 0, 1, 0, out, 44, values) == GRAIN_NONE);
+    HOLDS(values[0] == 43 && values[1] == 0 && out[42] == 0 && out[43] == 0xEE);
+    HOLDS(memcmp(out, start, sizeof start) == 0);
+}
+
 static void parts(void)
 {
     static const uint8_t padded[] = {0x80, 0x00}, cut[] = {0x80, 0x80, 0x80, 0x80, 0x80, 0x80, 0x80, 0x80, 0x80};
@@ -91,6 +117,7 @@ int main(void)
 {
     positions();
     encoding();
+    writing();
     parts();
     return failed;
 }

@@ -1,5 +1,5 @@
 /*
- * grain.h: the loader of Rhai Grain artifacts.
+ * grain.h: the loader of Rhai Grain artifacts, and their writer.
  *
  * Link target/staticlib/libgrain.a, which `rt staticlib grain` makes (x86-64, Linux). Every function here is proved to do
  * what its contract in crates/grain/src says, for every input; the words below say the same less exactly.
@@ -41,7 +41,7 @@ enum grain_refusal {
     GRAIN_POSITIONS = 12,           /* enum grain_positions_fault; earlier address of 3, count of 4 */
     GRAIN_TRAILING_BYTES = 13,      /* how many */
     GRAIN_FULL = 14,                /* enum grain_table */
-    GRAIN_BAD_MODEL = 15,           /* the rule: tables that are to be written break it */
+    GRAIN_BAD_MODEL = 15,           /* enum grain_rule: the lowest that tables to be written break */
     GRAIN_NO_ROOM = 16,             /* bytes needed */
     GRAIN_NOT_ASCENDING = 17        /* the address; the earlier one */
 };
@@ -224,6 +224,47 @@ uint64_t grain_read(const uint8_t *bytes, size_t len, uint8_t mask,
                     uint64_t *switches, size_t n7, uint64_t *cases, size_t n8, uint64_t *ranges, size_t n9,
                     uint64_t *customs, size_t n10, uint64_t *inputs, size_t n11, uint64_t *functions, size_t n12,
                     uint64_t *parameters, size_t n13, uint64_t answer[GRAIN_ANSWER_WORDS]);
+
+/* ---- Writing an artifact ---- */
+
+/*
+ * The rules of well-formed tables: the first value of GRAIN_BAD_MODEL is the lowest that is broken. A rule looks only at rows
+ * that are used, and only at the words that their tag uses. Tables that grain_read accepted keep all of them under the same mask.
+ */
+enum grain_rule {
+    GRAIN_RULE_COUNTS = 1,          /* counts fit their tables, and what rows own of another table uses it exactly */
+    GRAIN_RULE_SPANS = 2,           /* spans lie in the text */
+    GRAIN_RULE_STRINGS = 3,         /* strings are UTF-8 */
+    GRAIN_RULE_NAMES = 4,           /* ends never fall, the last is the blob's length, the blob is UTF-8 */
+    GRAIN_RULE_TAGS = 5,            /* tags and access are known, step flags are within the mask */
+    GRAIN_RULE_DEPTH = 6,           /* at most GRAIN_MAX_DEPTH arrays, maps and pointers around a constant */
+    GRAIN_RULE_CHARS = 7,           /* chars are Unicode scalars */
+    GRAIN_RULE_CASES = 8,           /* cases name top constants */
+    GRAIN_RULE_NUMBERS = 9,         /* line 0 has column 0, what is yes or no is 0 or 1, a literal that is there is below
+                                       FFFFFFFF (hex), this_type is at most 2^32, every number fits its kind */
+    GRAIN_RULE_POSITIONS = 10,      /* the position table is empty, or grain_pos_check accepts it */
+    GRAIN_RULE_LENGTH = 11          /* what is to be written, in the way asked, has at most GRAIN_MAX_BYTES */
+};
+
+/*
+ * Writes tables as an artifact into `out`, which has room for `room` bytes. `heading` has the words of an answer, which say what
+ * stands outside of the tables and how many of their rows are used; words 0, 1, 2 and 31 are not looked at. n1 to n13 are the
+ * lengths of the tables in words. `text` is what the spans cut, those of the heading too: for tables of grain_read, the bytes
+ * that were read. `mask` has the step flags that may be written. `strip` 0 keeps positions; anything else writes none for every
+ * position of a chain, and an empty position table.
+ * Returns 0 and leaves the bytes written in values[0], 0 in values[1], the artifact in front of `out`, and what is behind it as
+ * it was. Or returns GRAIN_BAD_MODEL with the rule, or GRAIN_NO_ROOM with the bytes needed, leaves the two values, and `out`
+ * as it was. With a room of 0 it so tells how many bytes are needed. The least artifact has 43; tables of grain_read need no
+ * more than were read.
+ */
+uint64_t grain_write(const uint64_t heading[GRAIN_ANSWER_WORDS],
+                     const uint64_t *names, size_t n1, const uint64_t *constants, size_t n2, const uint64_t *tokens, size_t n3,
+                     const uint64_t *assigns, size_t n4, const uint64_t *chains, size_t n5, const uint64_t *steps, size_t n6,
+                     const uint64_t *switches, size_t n7, const uint64_t *cases, size_t n8, const uint64_t *ranges, size_t n9,
+                     const uint64_t *customs, size_t n10, const uint64_t *inputs, size_t n11,
+                     const uint64_t *functions, size_t n12, const uint64_t *parameters, size_t n13,
+                     const uint8_t *text, size_t text_len, uint8_t mask, uint8_t strip,
+                     uint8_t *out, size_t room, uint64_t values[2]);
 
 /* ---- Position tables ---- */
 

@@ -4,7 +4,7 @@ use std::fs::OpenOptions;
 use std::io::Read;
 use std::process::Command;
 
-const COMMANDS: [&str; 6] = ["check", "dump", "positions", "resolve", "debug-id", "sample"];
+const COMMANDS: [&str; 8] = ["check", "dump", "positions", "resolve", "debug-id", "rewrite", "strip", "sample"];
 
 #[test]
 fn help_for_all_and_for_each() {
@@ -38,7 +38,7 @@ fn wrong_words() {
         let unknown = "grain: unknown option `--what`\nTry `grain --help`.\n";
         assert_eq!(grain([command, "--what"]), complained(2, unknown));
     }
-    for command in ["check", "dump", "positions", "resolve", "debug-id"] {
+    for command in ["check", "dump", "positions", "resolve", "debug-id", "rewrite", "strip"] {
         assert_eq!(grain([command]).status, 2, "{command}");
     }
 }

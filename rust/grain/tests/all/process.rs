@@ -66,6 +66,16 @@ pub fn file(name: &str, bytes: &[u8]) -> String {
     path.into_os_string().into_string().unwrap()
 }
 
+/// A folder of a test's own, empty, by a name that no other test uses.
+pub fn folder(name: &str) -> PathBuf {
+    let path = PathBuf::from(env!("CARGO_TARGET_TMPDIR")).join(name);
+    if path.exists() {
+        fs::remove_dir_all(&path).unwrap();
+    }
+    fs::create_dir(&path).unwrap();
+    path
+}
+
 /// The least artifact.
 pub fn least() -> Vec<u8> {
     [b"RGRN\x0b\x00\x08\x08".as_slice(), &[0; 35]].concat()
