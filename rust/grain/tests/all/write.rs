@@ -44,7 +44,7 @@ fn mean_the_same(one: &Artifact<'_>, other: &Artifact<'_>, positions: Positions,
 #[test]
 fn what_was_accepted_is_written_and_read_back() {
     let accepted: Vec<_> = cases().into_iter().filter(|case| case.answer[0] == 0).collect();
-    assert!(accepted.len() > 100, "only {} are accepted", accepted.len());
+    assert!(accepted.len() > 70, "only {} are accepted", accepted.len());
     for case in accepted {
         let mask = StepFlags(case.mask);
         let read = OwnedArtifact::read(case.artifact.clone(), mask).unwrap();
