@@ -55,6 +55,25 @@ fn what_is_there_is_replaced_and_keeps_its_mode() {
     assert_eq!(desk.names(), ["out", "source"]);
 }
 
+/// The old one or the new one, whenever it is looked at.
+#[test]
+fn whoever_reads_meanwhile_finds_a_whole_file() {
+    let desk = Desk::new("saved-meanwhile");
+    let (source, out) = (desk.path("source"), desk.path("out"));
+    let whole = [bytes(&["rewrite", &source]), bytes(&["strip", &source])];
+    fs::write(&out, &whole[0]).unwrap();
+    let writing = std::thread::spawn(move || {
+        for command in ["strip", "rewrite"].repeat(20) {
+            assert_eq!(grain([command, &source, "-o", &out]), said(0, ""));
+        }
+    });
+    while !writing.is_finished() {
+        assert!(whole.contains(&desk.read("out")));
+    }
+    writing.join().unwrap();
+    assert_eq!(desk.names(), ["out", "source"]);
+}
+
 #[test]
 fn out_may_be_the_file_itself() {
     let desk = Desk::new("saved-itself");

@@ -1,8 +1,9 @@
 //! Files that are written whole or not at all: in full beside their place, under a name of their own, and then moved into it.
 use crate::status::Failure;
 use std::ffi::OsStr;
-use std::fs::{self, File, OpenOptions, Permissions};
+use std::fs::{self, File, Metadata, OpenOptions};
 use std::io::{self, Write};
+use std::os::unix::fs::{fchown, MetadataExt};
 use std::path::{Path, PathBuf};
 use std::process;
 
@@ -11,8 +12,8 @@ pub struct Place<'n> {
     name: &'n OsStr,
     /// Without links: one in its place would be moved away, and not the file that it leads to.
     path: PathBuf,
-    /// Those of the file that is replaced.
-    permissions: Option<Permissions>,
+    /// The file that is replaced.
+    replaced: Option<Metadata>,
 }
 
 /// Puts all of these files into their places, in this order, once each is written in full.
@@ -26,12 +27,12 @@ pub fn all(files: &[(&Place<'_>, &[u8])]) -> Result<(), Failure> {
 impl<'n> Place<'n> {
     pub fn of(name: &'n OsStr) -> Result<Place<'n>, Failure> {
         let found = match fs::canonicalize(name) {
-            Ok(path) => replaceable(&path).map(|permissions| (path, Some(permissions))),
+            Ok(path) => replaceable(&path).map(|replaced| (path, Some(replaced))),
             Err(why) if why.kind() == io::ErrorKind::NotFound => free(Path::new(name)).map(|path| (path, None)),
             Err(why) => Err(why),
         };
-        let (path, permissions) = found.map_err(|why| Failure::file(name, why))?;
-        Ok(Place { name, path, permissions })
+        let (path, replaced) = found.map_err(|why| Failure::file(name, why))?;
+        Ok(Place { name, path, replaced })
     }
 
     /// Whether a file that is there, by any name, has this place.
@@ -49,7 +50,7 @@ impl<'n> Place<'n> {
 }
 
 /// What is there is replaced only where it could be written too: a device would be lost, and a file may be guarded.
-fn replaceable(path: &Path) -> io::Result<Permissions> {
+fn replaceable(path: &Path) -> io::Result<Metadata> {
     let found = fs::metadata(path)?;
     if found.is_dir() {
         return Err(io::ErrorKind::IsADirectory.into());
@@ -58,7 +59,7 @@ fn replaceable(path: &Path) -> io::Result<Permissions> {
         return Err(io::Error::other("neither a file nor free for one"));
     }
     OpenOptions::new().write(true).open(path)?;
-    Ok(found.permissions())
+    Ok(found)
 }
 
 /// A place where nothing is: the last part of the name, in a folder that there is.
@@ -85,7 +86,7 @@ impl<'p> Beside<'p> {
         let told = |why| Failure::file(place.name, why);
         let (path, file) = create(place.folder()).map_err(told)?;
         let beside = Beside { place, path, moved: false };
-        fill(file, place.permissions.as_ref(), bytes).map_err(told)?;
+        fill(file, place.replaced.as_ref(), bytes).map_err(told)?;
         Ok(beside)
     }
 
@@ -124,9 +125,11 @@ fn create(folder: &Path) -> io::Result<(PathBuf, File)> {
 }
 
 /// The bytes, on the disk and not on their way to it. Who may read them is settled before they are there.
-fn fill(mut file: File, permissions: Option<&Permissions>, bytes: &[u8]) -> io::Result<()> {
-    if let Some(permissions) = permissions {
-        file.set_permissions(permissions.clone())?;
+fn fill(mut file: File, replaced: Option<&Metadata>, bytes: &[u8]) -> io::Result<()> {
+    if let Some(replaced) = replaced {
+        // Its owner may be given only by some; the mode by everyone.
+        let _ = fchown(&file, Some(replaced.uid()), Some(replaced.gid()));
+        file.set_permissions(replaced.permissions())?;
     }
     file.write_all(bytes)?;
     file.sync_all()
