@@ -42,8 +42,8 @@ pub struct Model<'a> {
 }
 
 impl Model<'_> {
-    /// Writes an artifact into the front of `out` and gives its size; the bytes behind it stay. Each number is written in
-    /// its shortest form.
+    /// Writes an artifact into the front of `out` and gives its size; the bytes behind it stay. Numbers are written in their
+    /// shortest form; code and position table are copied.
     ///
     /// # Errors
     ///

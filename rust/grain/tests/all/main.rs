@@ -7,6 +7,7 @@ mod manners;
 mod process;
 mod rewrite;
 mod saved;
+mod stack;
 mod tables;
 mod vectors;
 mod words;

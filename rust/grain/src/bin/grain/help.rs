@@ -13,7 +13,7 @@ Looks at Rhai Grain artifacts, and writes them anew, through functions that are 
   positions FILE            the entries of the position table
   resolve TABLE ADDRESS..   the places in the source of addresses
   debug-id TABLE CHAINS     what names a position table and chain bytes
-  rewrite FILE -o OUT       writes an artifact anew, every number in its shortest form
+  rewrite FILE -o OUT       writes an artifact anew, numbers in their shortest form
   strip FILE -o OUT         the same without positions; --positions TABLE saves these
   sample                    writes an artifact to try all this on
 
@@ -90,8 +90,8 @@ Exit status: 0 answered, 2 usage or a file that cannot be read.
 const REWRITE: &str = "\
 usage: grain rewrite [--mask HEX] [-o OUT] FILE
 
-Writes an artifact anew. It means the same and is no longer than before: every number has its shortest form, a position without
-a line has no column, and what says yes is 1. A second time changes nothing.
+Writes an artifact anew. It means the same and is no longer than before: numbers have their shortest form, a position without a
+line has no column, and what says yes is 1. Code and position table stay as they are. A second time changes nothing.
 
   -o, --output OUT    to this file; without it, or where it is -, to standard output
   --mask HEX          the step flags that are known, a byte (default 01)
