@@ -310,7 +310,7 @@ def ends():
 def whole():
     case('all sections', RICH)
     case('all sections, no word lent', RICH, lengths=[0] * 13)
-    used = [4, 16, 2, 1, 3, 3, 2, 2, 1, 1, 2, 2, 2]
+    used = [4, 17, 2, 1, 3, 3, 2, 2, 1, 1, 2, 2, 2]
     exact = [n * width for n, width in zip(used, WIDTHS)]
     case('all sections in tables that fit exactly', RICH, lengths=exact)
     case('all sections, with words that make no row', RICH, lengths=[n + width - 1 for n, width in zip(exact, WIDTHS)])
@@ -366,4 +366,5 @@ def main():
     print(f'{len(CASES)} artifacts written')
 
 
-main()
+if __name__ == '__main__':
+    main()
