@@ -17,8 +17,9 @@ pub const NAMES: u64 = 11;
 pub const POSITIONS: u64 = 12;
 pub const TRAILING_BYTES: u64 = 13;
 pub const FULL: u64 = 14;
+pub const BAD_MODEL: u64 = 15;
 pub const NO_ROOM: u64 = 16;
 pub const NOT_ASCENDING: u64 = 17;
 
-/// The longest artifact that is read.
+/// The longest artifact that is read or written.
 pub const LONGEST: usize = 1_048_576;

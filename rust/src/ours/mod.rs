@@ -2,3 +2,4 @@
 pub mod artifact;
 pub mod numbers;
 pub mod positions;
+pub mod written;

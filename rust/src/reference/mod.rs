@@ -2,10 +2,12 @@
 mod constants;
 mod cursor;
 mod sections;
+mod writing;
 
 use crate::artifact::Answer;
 use crate::refusals::{LONGEST, TOO_LONG};
 use cursor::Reader;
+pub use writing::write;
 
 /// What is read of `bytes` into tables with so many places.
 pub fn read(bytes: &[u8], mask: u8, places: [usize; 13]) -> Answer {

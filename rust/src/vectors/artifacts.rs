@@ -1,28 +1,26 @@
-//! The artifacts of ../vectors, read by the proved reader, and its answers in the words of answers.txt.
+//! The artifacts, read by the proved reader, and its answers in the words of answers.txt.
+use super::{bytes, fail};
 use crate::ours::artifact as ours;
 use beside::inputs::case::Case;
 use std::fmt::Write;
-use std::path::Path;
 
-/// Says the first case that is answered otherwise, and ends the run.
-pub fn all(folder: &Path) {
-    let [cases, answers] = ["cases.txt", "answers.txt"].map(|name| std::fs::read_to_string(folder.join(name)).unwrap());
+pub fn all(cases: &str, answers: &str) {
     let answers: Vec<&str> = answers.split("# ").skip(1).collect();
-    let cases: Vec<&str> = cases.split("# ").skip(1).collect();
+    let cases = named(cases);
     assert_eq!(cases.len(), answers.len(), "as many cases as answers");
-    for (case, answer) in cases.iter().zip(&answers) {
-        let (name, digits) = case.trim_end().split_once('\n').unwrap();
-        let ours = format!("{name}\n{}", answered(&bytes(digits)));
+    for ((name, case), answer) in cases.iter().zip(&answers) {
+        let ours = format!("{name}\n{}", answered(case));
         if ours != *answer {
-            println!("the vectors have:\n{answer}ours is:\n{ours}");
-            std::process::exit(1);
+            fail(name, answer, &ours);
         }
     }
     println!("{} artifacts of vectors/cases.txt: the proved reader answers each as vectors/answers.txt has it", cases.len());
 }
 
-fn bytes(digits: &str) -> Vec<u8> {
-    (0..digits.len()).step_by(2).map(|k| u8::from_str_radix(&digits[k..k + 2], 16).unwrap()).collect()
+/// The names of the cases, and their bytes.
+pub fn named(cases: &str) -> Vec<(&str, Vec<u8>)> {
+    let named = |(name, digits): (_, &str)| (name, bytes(digits.trim_end()));
+    cases.split("# ").skip(1).map(|case| named(case.split_once('\n').unwrap())).collect()
 }
 
 /// The words, and a line for each table, which holds something else before.
