@@ -13,8 +13,8 @@ use rhai_grain::{settings, Program};
 use std::hint::black_box;
 use std::time::Duration;
 
-/// The bytes that are read in one run, in as many calls as that takes.
-const RUN: usize = SIZE / 10;
+/// The bytes that are read or written in one run, in as many calls as that takes.
+pub const RUN: usize = SIZE / 10;
 
 /// Tables that have the places a file needs.
 pub fn places(bytes: &[u8]) -> [Vec<u64>; 13] {

@@ -7,6 +7,7 @@ mod numbers;
 mod plot;
 mod positions;
 mod text;
+mod written;
 
 pub use plot::draw;
 use std::hint::black_box;
@@ -43,6 +44,7 @@ pub fn all() {
     text::all();
     positions::all();
     artifacts::all();
+    written::all();
     println!();
     artifacts::memory();
 }

@@ -2,6 +2,7 @@
 pub mod artifacts;
 pub mod bytes;
 pub mod case;
+pub mod models;
 pub mod sites;
 pub mod tables;
 

@@ -1,12 +1,15 @@
 //! Where the original differs on purpose: what it does is shown, and the other answer is document 01's.
 use super::inputs::long;
+use super::rewritten::counted;
 use super::{same, tried, Met, MASK};
+use crate::ours::written as ours;
 use beside::inputs::artifacts::limits::CODE;
 use beside::inputs::artifacts::{artifact, least_with};
 use beside::inputs::bytes::damage;
 use beside::inputs::Random;
-use beside::original::artifact::{read, read_by_all_rules, LeftBehind};
-use beside::refusals::LONGEST;
+use beside::lent::{Model, Way};
+use beside::original::artifact::{read, read_by_all_rules, rewritten, LeftBehind};
+use beside::refusals::{BAD_MODEL, LONGEST};
 
 pub fn all() {
     let mut met = Met::default();
@@ -15,6 +18,8 @@ pub fn all() {
     same("files that document 01 accepts", "rules left behind", met.inputs, met.accepted);
     met.report("artifacts about the rules left behind", (0, 0));
     length();
+    kept_tables();
+    long_writes();
     all_rules();
 }
 
@@ -49,6 +54,33 @@ fn walk(met: &mut Met) {
 fn length() {
     let read = read_by_all_rules(&long(LONGEST + 1)).map(|answer| answer.row());
     same("a file above the limit", LONGEST + 1, Ok([0; 3]), read);
+}
+
+/// What the original writes for a position table that it has read and keeps: one of no entries for none, the shortest form of
+/// each number, and no entry whose line takes more than 16 bits. Here the table stands as it stood.
+fn kept_tables() {
+    let tables: [[&[u8]; 2]; 4] =
+        [[b"", b"\0"], [b"\x80\0", b"\0"], [b"\x81\0\0\x01\x01", b"\x01\0\x01\x01"], [b"\x01\0\x80\x80\x04\0", b"\0"]];
+    for table in tables {
+        let mut front = least_with(CODE, b"\x01\x02");
+        front.pop();
+        let [file, theirs] = table.map(|table| [&front[..], &counted(table)].concat());
+        same("a position table that is kept", &file, theirs, rewritten(&file, MASK).kept);
+        let mut out = vec![0; file.len()];
+        ours::write(Model::of(&read(&file, MASK), &file).lent(), Way { mask: MASK, strip: 0 }, &mut out);
+        same("a position table that is kept here", &file, &file, &out);
+    }
+}
+
+/// The original writes files of any length.
+fn long_writes() {
+    let (whole, more) = (long(LONGEST), LONGEST as u64 + 1);
+    same("a longer file that the original writes", more, more, rewritten(&long(LONGEST + 1), MASK).stripped.len() as u64);
+    let mut model = Model::of(&read(&whole, MASK), &whole);
+    model.text.push(0x47);
+    model.heading[beside::lent::CODE + 1] += 1;
+    let row = ours::write(model.lent(), Way { mask: MASK, strip: 1 }, &mut vec![0; LONGEST + 1]);
+    same("a longer file here", more, [BAD_MODEL, 11, 0], row);
 }
 
 /// Where neither of the two rules refuses a file, passing them by changes nothing.

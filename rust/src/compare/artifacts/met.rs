@@ -1,4 +1,5 @@
 //! What the inputs reach: every refusal with its reasons, and every tag.
+use super::rewritten::Tables;
 use beside::artifact::{Answer, WIDTHS};
 use beside::refusals::*;
 use std::collections::{BTreeMap, BTreeSet};
@@ -23,6 +24,7 @@ pub struct Met {
     pub accepted: u64,
     refused: BTreeMap<(u64, u64), u64>,
     tags: [BTreeSet<u64>; 4],
+    pub tables: Tables,
 }
 
 impl Met {
@@ -71,5 +73,6 @@ impl Met {
             .map(|((number, reason), n)| if *reason > 0 { format!("{number}.{reason}: {n}") } else { format!("{number}: {n}") })
             .collect();
         println!("    refusals by number and reason: {}", all.join(", "));
+        self.tables.report();
     }
 }

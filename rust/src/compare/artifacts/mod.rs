@@ -4,8 +4,10 @@ mod differences;
 mod inputs;
 mod met;
 mod places;
+mod rewritten;
 mod seeded;
 mod threads;
+mod wounded;
 
 use super::same;
 use crate::ours::artifact as ours;
@@ -19,12 +21,14 @@ pub use seeded::Seeded;
 const MASK: u8 = original::OWN_MASK;
 
 pub fn all(seeded: Seeded) {
-    println!("artifacts, read by the original and by the proved reader:");
+    println!("artifacts, read by the original and by the proved reader, and written again by both:");
     inputs::all();
     places::all();
     bounded::all();
     differences::all();
     threads::all();
+    rewritten::all();
+    wounded::all();
     seeded::all(seeded);
 }
 
@@ -36,12 +40,16 @@ fn ample(bytes: &[u8]) -> [usize; 13] {
     LEAST.map(|least| bytes.len() / least + 1)
 }
 
-/// One file in ample places. The plain reading, which says what is Full elsewhere, must agree with the original too.
+/// One file in ample places, and what is accepted written again. The plain reading, which says what is Full elsewhere, must agree
+/// with the original too.
 fn tried(bytes: &[u8], mask: u8, met: &mut Met) {
     let (expected, places) = (original::read(bytes, mask), ample(bytes));
     met.add(&expected);
     same("a plain reading", (bytes, mask), &expected, &reference::read(bytes, mask, places));
     in_places(bytes, mask, places, &expected);
+    if expected.words[0] == 0 {
+        rewritten::tried(bytes, mask, &expected, &mut met.tables);
+    }
 }
 
 /// One long file, for which that would be much.

@@ -1,12 +1,14 @@
-//! The original's reader: what it read, in the words of the thirteen tables, or a row of document 01's refusals.
+//! The original's reader: what it read, in the words of the thirteen tables, or a row of document 01's refusals; and its writer.
 mod constants;
 mod refused;
+mod rewritten;
 mod rows;
 
 use crate::artifact::Answer;
 use crate::refusals::{LONGEST, TOO_LONG};
 use rhai_grain::grain::bytecode::TableError;
 use rhai_grain::grain::format::AbiMismatch;
+pub use rewritten::{rewritten, Rewritten};
 use rhai_grain::{settings, Program, ReadError};
 use std::ops::Range;
 
@@ -22,12 +24,16 @@ pub fn read(bytes: &[u8], mask: u8) -> Answer {
     if bytes.len() > LONGEST {
         return Answer::refused([TOO_LONG, bytes.len() as u64, 0]);
     }
-    settings::know_flags((mask != OWN_MASK).then_some(mask));
+    know_flags(mask);
     settings::walk_code(false);
     match Program::read(bytes) {
         Err(ReadError::Abi(AbiMismatch::MissingCaps { .. })) => without_caps(bytes),
         read => answer(bytes, read),
     }
+}
+
+fn know_flags(mask: u8) {
+    settings::know_flags((mask != OWN_MASK).then_some(mask));
 }
 
 /// A rule that document 01 leaves behind, and that `read` passes by.
@@ -49,8 +55,7 @@ pub fn read_by_all_rules(bytes: &[u8]) -> Result<Answer, LeftBehind> {
 }
 
 fn without_caps(bytes: &[u8]) -> Answer {
-    let mut plain = bytes.to_vec();
-    plain[CAPS].fill(0);
+    let plain = rewritten::without_caps(bytes);
     let mut answer = answer(&plain, Program::read(&plain));
     if answer.words[0] == 0 {
         answer.words[3] = u64::from(u32::from_le_bytes(bytes[CAPS].try_into().unwrap()));
