@@ -1,6 +1,6 @@
-# From a disassembly: where each block of the proved reader begins. That is where a function begins, where a jump leads, and
+# From a disassembly: where each block of the proved reader and writer begins. That is where a function begins, where a jump leads, and
 # what stands behind a jump or a return. Rattle's functions have names with :: in them, which a Rust program's have not.
-function ours(name) { return name ~ /::|^<(grain|proved)_read/ }
+function ours(name) { return name ~ /::|^<(grain|proved)_(read|write)/ }
 /^[0-9a-f]+ <.*>:$/ { inside = ours($2); leads = 1; next }
 !inside || $1 !~ /^[0-9a-f]+:$/ || $2 ~ /^(nop|data16|cs)/ { next }
 {

@@ -1,5 +1,5 @@
 /*
- * Which blocks of the proved reader an input is the first to reach. The archive carries no instrumentation of its own, so
+ * Which blocks of the proved functions an input is the first to reach. The archive carries no instrumentation of its own, so
  * each block's first byte is made a trap; the trap puts the byte back, and tells libFuzzer by one of its extra counters.
  * A block costs that once, and the reader runs at its own speed from then on.
  */
@@ -50,7 +50,7 @@ static void on_trap(int signal, siginfo_t *info, void *context) {
 static void report(void) {
     size_t reached = 0;
     for (size_t k = 0; k < blocks; k++) reached += ever[k];
-    fprintf(stderr, "blocks of the proved reader reached: %zu of %zu\n", reached, blocks);
+    fprintf(stderr, "blocks of the proved functions reached: %zu of %zu\n", reached, blocks);
     const char *name = getenv("GRAIN_UNREACHED");
     FILE *file = name ? fopen(name, "w") : NULL;
     if (!file) return;

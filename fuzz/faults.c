@@ -1,6 +1,6 @@
 /*
- * Faults put on purpose behind the proved reader, which stands in a copy of the archive under another name. GRAIN_FAULT says
- * which one. They are what a reader could get wrong without saying so.
+ * Faults put on purpose behind the proved reader and writer, which stand in a copy of the archive under other names. GRAIN_FAULT
+ * says which one. They are what a reader or a writer could get wrong without saying so.
  */
 #include "grain.h"
 #include <stdlib.h>
@@ -8,8 +8,14 @@
 #define TABLE(k) uint64_t *t##k, size_t n##k
 #define TABLES TABLE(1), TABLE(2), TABLE(3), TABLE(4), TABLE(5), TABLE(6), TABLE(7), TABLE(8), TABLE(9), TABLE(10), TABLE(11), \
     TABLE(12), TABLE(13)
+#define LENT(k) const TABLE(k)
+#define ALL_LENT LENT(1), LENT(2), LENT(3), LENT(4), LENT(5), LENT(6), LENT(7), LENT(8), LENT(9), LENT(10), LENT(11), LENT(12), \
+    LENT(13), const uint8_t *text, size_t text_len
 
 uint64_t proved_read(const uint8_t *bytes, size_t len, uint8_t mask, TABLES, uint64_t answer[GRAIN_ANSWER_WORDS]);
+
+uint64_t proved_write(const uint64_t heading[GRAIN_ANSWER_WORDS], ALL_LENT, uint8_t mask, uint8_t strip, uint8_t *out, size_t room,
+                      uint64_t values[2]);
 
 /* The tables by their numbers, and their words. */
 struct lent {
@@ -81,4 +87,43 @@ uint64_t grain_read(const uint8_t *bytes, size_t len, uint8_t mask, TABLES, uint
     /* 10: a byte behind the file is read */
     if (fault() == 10 && ((volatile const uint8_t *)bytes)[len] == 0xA5) answer[1] += 1;
     return answer[0];
+}
+
+static uint64_t written(uint64_t steps, uint8_t strip, uint8_t *out, size_t room, uint64_t *values) {
+    uint64_t size = values[0];
+    switch (fault()) {
+    case 12: /* the last byte is off, where it is stripped and there are steps */
+        if (strip && steps > 0) out[size - 1] += 1;
+        break;
+    case 13: /* a byte behind the written ones is touched */
+        if (size < room) out[size] = 0;
+        break;
+    case 14: /* a byte behind the output is written */
+        out[room] = 0;
+        break;
+    }
+    return 0;
+}
+
+static uint64_t unwritten(uint64_t number, uint8_t *out, size_t room, uint64_t *values) {
+    switch (fault()) {
+    case 15: /* a refusal touches the output */
+        if (room > 0) out[room - 1] += 1;
+        break;
+    case 16: /* the bytes needed are one off */
+        values[0] += number == GRAIN_NO_ROOM;
+        break;
+    case 17: /* another rule */
+        values[0] += number == GRAIN_BAD_MODEL && values[0] == 8;
+        break;
+    }
+    return number;
+}
+
+uint64_t grain_write(const uint64_t heading[GRAIN_ANSWER_WORDS], ALL_LENT, uint8_t mask, uint8_t strip, uint8_t *out, size_t room,
+                     uint64_t values[2]) {
+    uint64_t number = proved_write(heading, t1, n1, t2, n2, t3, n3, t4, n4, t5, n5, t6, n6, t7, n7, t8, n8, t9, n9, t10, n10, t11, n11,
+                                   t12, n12, t13, n13, text, text_len, mask, strip, out, room, values);
+    if (number == 0) return written(heading[GRAIN_ANSWER_ROWS + GRAIN_TABLE_STEPS], strip, out, room, values);
+    return unwritten(number, out, room, values);
 }

@@ -1,10 +1,10 @@
 # Sourced by run, in the repository's folder: faults on purpose, each of which must be found.
 
-# A copy of the archive with the faults behind its reader.
+# A copy of the archive with the faults behind its reader and its writer.
 folder=$PWD/target/fuzz/faulty
 archive=$folder/libgrain.a
 mkdir -p "$folder"
-objcopy --redefine-sym grain_read=proved_read target/staticlib/libgrain.a "$archive"
+objcopy --redefine-sym grain_read=proved_read --redefine-sym grain_write=proved_write target/staticlib/libgrain.a "$archive"
 cc -std=c11 -Wall -Wextra -Werror -O1 -Iinclude -c fuzz/faults.c -o "$folder/faults.o"
 ar r "$archive" "$folder/faults.o"
 
@@ -34,13 +34,13 @@ fuzzed -runs=0 || fail 'the fuzzer fails without a fault'
 compared || fail 'the comparison fails without a fault'
 # One fault shows in none of the seeds, so that it takes the fuzzing to find it.
 GRAIN_FAULT=11 fuzzed -runs=0 || fail 'the seeds show fault 11'
-for GRAIN_FAULT in 1 2 3 4 5 6 7 8 9 10 11; do
+for GRAIN_FAULT in 1 2 3 4 5 6 7 8 9 10 11 12 13 14 15 16 17; do
     export GRAIN_FAULT
     rm -f "$folder"/crash-*
     if fuzzed || ! ls "$folder"/crash-* >/dev/null 2>&1; then fail "fault $GRAIN_FAULT is not found by the fuzzer"; fi
-    echo "fault $GRAIN_FAULT: the fuzzer finds $(grep -m 1 -E 'ERROR: libFuzzer|same answer|rows of|words of|zeros|three words' "$folder/said")"
+    echo "fault $GRAIN_FAULT: the fuzzer finds $(grep -m 1 -E 'ERROR: libFuzzer|same answer|rows of|words of|zeros|three words|no room|refusal leaves|plain reading' "$folder/said")"
     # What is touched outside of the lent memory only the fuzzer's closed pages show.
-    case $GRAIN_FAULT in 9 | 10) continue ;; esac
+    case $GRAIN_FAULT in 9 | 10 | 14) continue ;; esac
     if compared; then fail "fault $GRAIN_FAULT is not found by the comparison"; fi
     echo "fault $GRAIN_FAULT: the comparison finds $(grep -m 1 'the original has' "$folder/said" | sed 's/ of (.*//')"
 done

@@ -1,8 +1,9 @@
 //! What must hold of every input. A panic is what libFuzzer reports, with the input.
 use crate::lent::{Lent, MOST_WORDS};
-use crate::ours;
+use crate::{ours, written};
 use beside::artifact::{Answer, Words, WIDTHS};
 use beside::inputs::case::Case;
+use beside::lent::Model;
 use beside::original::artifact as original;
 use beside::reference;
 use beside::refusals::FULL;
@@ -14,6 +15,9 @@ pub fn all(case: &Case, lent: &mut Lent) {
     let again = read(case, lengths, lent, 0x1111_1111_1111_1112);
     assert!((words, &tables) == (again.0, &again.1), "the same answer twice, whatever the tables held");
     by_document(case, lengths, &words, &tables);
+    if words[0] == 0 {
+        written::all(case, Model { heading: words, tables, text: case.artifact.to_vec() }, lent);
+    }
 }
 
 /// Reads in memory that ends where it was lent, and that held something else before.

@@ -59,10 +59,12 @@ impl Room {
 pub struct Lent {
     pub file: Room,
     pub tables: [Room; 13],
+    pub out: Room,
 }
 
 impl Lent {
     pub fn new() -> Lent {
-        Lent { file: Room::new(MOST_BYTES), tables: std::array::from_fn(|_| Room::new(8 * MOST_WORDS)) }
+        let tables = std::array::from_fn(|_| Room::new(8 * MOST_WORDS));
+        Lent { file: Room::new(MOST_BYTES), tables, out: Room::new(MOST_BYTES) }
     }
 }

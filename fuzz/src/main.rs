@@ -1,9 +1,12 @@
-//! What libFuzzer calls: one input is a case of ../vectors, read in memory that ends where it was lent.
+//! What libFuzzer calls: one input is a case of ../vectors, read, and written again, in memory that ends where it was lent.
 #![no_main]
 mod checks;
 mod lent;
 #[path = "../../rust/src/ours/artifact.rs"]
 mod ours;
+#[path = "../../rust/src/ours/written.rs"]
+mod ours_written;
+mod written;
 
 use beside::inputs::case::Case;
 use std::cell::RefCell;
