@@ -8,12 +8,8 @@ would be written, and exits with 1 where they do not. A case is its name behind 
 each of the thirteen tables how many words are lent (two bytes, low first), and the artifact. An answer is the name again, the
 words of the answer, and a line for each table.
 """
-import pathlib
-import sys
-
 from reference import WIDTHS, read
-
-FOLDER = pathlib.Path(__file__).resolve().parent
+from stored import store
 
 
 # ── how the file writes things ──
@@ -351,20 +347,9 @@ def shown(table):
     return '|' + said
 
 
-def main():
-    if sys.argv[1:] not in ([], ['--check']):
-        sys.exit(__doc__)
-    files = dict(zip(('cases.txt', 'answers.txt'), lines()))
-    if sys.argv[1:]:
-        stale = [name for name, made in files.items() if (FOLDER / name).read_text() != made]
-        if stale:
-            sys.exit(f'not what document 01 answers: {", ".join(stale)}')
-        print(f'{len(CASES)} artifacts, as document 01 answers them')
-        return
-    for name, made in files.items():
-        (FOLDER / name).write_text(made)
-    print(f'{len(CASES)} artifacts written')
+def made():
+    return dict(zip(('cases.txt', 'answers.txt'), lines())), f'{len(CASES)} artifacts'
 
 
 if __name__ == '__main__':
-    main()
+    store(__doc__, made)

@@ -21,15 +21,12 @@ bytes in hexadecimal, or =N where they are those of the Nth line that shows any,
 rewritten.txt has a line for each artifact of cases.txt that is accepted: of its tables written, kept and then stripped, the length and
 the digest, and its name. A digest is FNV-1a of 64 bits.
 """
-import pathlib
-import sys
-
 import artifacts
 from reference import (ASSIGNS, CASES, CHAINS, CONSTANTS, CUSTOMS, FUNCTIONS, INPUTS, LIMIT, NAMES, PARAMETERS, RANGES, STEPS, SWITCHES, TOKENS,
                        WIDTHS, read)
+from stored import store
 from writing import Model, write
 
-FOLDER = pathlib.Path(__file__).resolve().parent
 MOST = 2 ** 64 - 1
 SHOWN = 400
 
@@ -455,7 +452,7 @@ def told(answer, out, shown):
     return f'{line} {out.hex()}'
 
 
-def stored():
+def cases_and_answers():
     """The text of tables.txt and written.txt."""
     for section in SECTIONS:
         section()
@@ -481,22 +478,11 @@ def rewritten():
     return '\n'.join(lines) + '\n', len(lines)
 
 
-def main():
-    if sys.argv[1:] not in ([], ['--check']):
-        sys.exit(__doc__)
+def made_files():
     again, accepted = rewritten()
-    files = dict(zip(('tables.txt', 'written.txt', 'rewritten.txt'), [*stored(), again]))
-    said = f'{len(STORED)} cases of tables in {sum(len(ways) for _, _, _, ways, _ in STORED)} ways, and {accepted} artifacts'
-    if sys.argv[1:]:
-        stale = [name for name, text in files.items() if (FOLDER / name).read_text() != text]
-        if stale:
-            sys.exit(f'not what document 01 answers: {", ".join(stale)}')
-        print(f'{said}, written as document 01 has it')
-        return
-    for name, text in files.items():
-        (FOLDER / name).write_text(text)
-    print(f'{said} to be written')
+    files = dict(zip(('tables.txt', 'written.txt', 'rewritten.txt'), [*cases_and_answers(), again]))
+    return files, f'{len(STORED)} cases of tables in {sum(len(ways) for _, _, _, ways, _ in STORED)} ways, and {accepted} artifacts to be written again'
 
 
 if __name__ == '__main__':
-    main()
+    store(__doc__, made_files)
