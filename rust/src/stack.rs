@@ -1,9 +1,12 @@
-//! The deepest stack that a read takes: the stack below is painted, and what is no longer painted after the read was used.
+//! The deepest stack that a read takes, and a write of what was read: the stack below is painted, and what is no longer painted
+//! afterwards was used.
 use crate::ours::artifact as ours;
+use crate::ours::written::write;
 use beside::artifact::WIDTHS;
 use beside::inputs::artifacts::{artifact, Style};
 use beside::inputs::artifacts::limits::nested_over;
 use beside::inputs::artifacts::measured::{file, with_positions, Of};
+use beside::lent::{Lent, Way};
 use beside::original::artifact::{read, OWN_MASK};
 use std::hint::black_box;
 use std::thread;
@@ -19,7 +22,7 @@ pub fn all() {
 }
 
 fn measured() {
-    println!("bytes of stack that grain_read takes, its arguments with it:");
+    println!("bytes of stack that grain_read takes, and grain_write of what was read, their arguments with them:");
     for levels in [0, 1, 2, 63, 64, 65] {
         deepest(&format!("constants of every tag under {levels} lists"), under(levels));
     }
@@ -44,11 +47,16 @@ fn under(levels: usize) -> impl Iterator<Item = Vec<u8>> {
 }
 
 fn deepest(what: &str, files: impl IntoIterator<Item = Vec<u8>>) {
-    let most = files.into_iter().map(|bytes| taken(&bytes)).max();
-    println!("{:>8}  {what}", most.unwrap_or(0));
+    let mut most = [0; 2];
+    for bytes in files {
+        let taken = taken(&bytes);
+        most = std::array::from_fn(|k| most[k].max(taken[k]));
+    }
+    println!("{:>8} {:>8}  {what}", most[0], most[1]);
 }
 
-fn taken(bytes: &[u8]) -> usize {
+/// By the read, and by the write, kept or stripped; 0 where there is nothing to write.
+fn taken(bytes: &[u8]) -> [usize; 2] {
     // A refused file has places too, so that it is refused for what it says.
     let expected = read(bytes, OWN_MASK);
     let used = expected.used();
@@ -57,6 +65,16 @@ fn taken(bytes: &[u8]) -> usize {
     let words = ours::read(bytes, OWN_MASK, tables.each_mut().map(|table| &mut table[..]));
     let taken = unpainted(here);
     assert_eq!(words, expected.words, "what is measured is a right read");
+    let lent = Lent { heading: &words, tables: tables.each_ref().map(|table| &table[..]), text: bytes };
+    [taken, if words[0] == 0 { written(lent, 0).max(written(lent, 1)) } else { 0 }]
+}
+
+fn written(lent: Lent, strip: u8) -> usize {
+    let mut out = vec![0; lent.text.len()];
+    let here = paint();
+    let row = write(lent, Way { mask: OWN_MASK, strip }, &mut out);
+    let taken = unpainted(here);
+    assert_eq!(row[0], 0, "what is measured is a write");
     taken
 }
 
