@@ -365,6 +365,7 @@ def rule_11():
     for n in (size + 1, size + 2, 2 * LIMIT):
         case(f'code of {n} bytes', 'least', *filled(n), rule=11, ways=[(1, 0, 3 * LIMIT), (1, 1, 0)])
     case('a text of a megabyte, ten times', 'least', f'f {LIMIT} 71', rows(TOKENS, 10, 0, LIMIT), used(TOKENS, 10), rule=11)
+    case('a blob of a megabyte, 20,000 times', 'least', f'f {LIMIT} 255', rows(CONSTANTS, 20_000, 9, 0, 0, 0, LIMIT, 0, 0, 0), used(CONSTANTS, 20_000), head(17, 20_000), rule=11)
     case('a hundred thousand names, and all in a megabyte', 'least', rows(NAMES, 100_000, 0), used(NAMES, 100_000), rule=0, ways=[(1, 0, LIMIT)])
     case('150,000 functions of seven bytes', 'least', rows(FUNCTIONS, 150_000, *[0] * 7), used(FUNCTIONS, 150_000), rule=11)
     in_the_way_asked(size)
@@ -411,27 +412,30 @@ def unused():
     accepted('what no tag uses is not looked at', 'rich', *everything, at(INPUTS, 1, 4, MOST))
 
 
-# a line or more for each rule that break it and no lower one, in all sections
-BREAKS = {1: [used(STEPS, 2)], 2: [head(SOURCE + 1, MOST)], 3: [text(b'\xff'), at(TOKENS, 0, 0, END)], 4: [at(NAMES, 0, 0, 99)], 5: [at(CHAINS, 1, 7, 9)],
-          6: [used(CONSTANTS, 84), head(17, 13), rows(CONSTANTS, 65, 7, 0, 0, 0, 0, 1, 0, 0), rows(CONSTANTS, 1, *[0] * 8)], 7: [at(CONSTANTS, 4, 1, 0xD800)],
-          8: [at(CASES, 0, 1, 99)], 9: [at(SWITCHES, 1, 2, 2 ** 32)], 10: [head(POSITIONS + 1, 7)], 11: []}
-
-
-def together(*rules):
-    """The code is put behind the text where the file is to be too long, and the letter before it."""
-    lines = [line for rule in rules for line in BREAKS[rule]]
-    if 11 in rules:
-        behind = END + (1 if 3 in rules else 0)
-        lines += [f'f {LIMIT} 71', head(CODE, behind), head(CODE + 1, LIMIT)]
-    return lines
+# for each rule lines that break it and no lower one, in all sections, at places in front and at the end: a writer that judged row by
+# row, or section by section, would find the higher of two rules first
+TOWER = [rows(CONSTANTS, 65, 7, 0, 0, 0, 0, 1, 0, 0), rows(CONSTANTS, 1, *[0] * 8), used(CONSTANTS, 84), head(17, 13)]
+BREAKS = {1: [[used(STEPS, 2)], [at(FUNCTIONS, 1, 3, 7)]],
+          2: [[head(SOURCE + 1, MOST)], [at(CONSTANTS, ENTRY, 6, MOST)], [at(ASSIGNS, 0, 3, MOST)]],
+          3: [[at(CONSTANTS, STRING, 3, 101), at(CONSTANTS, STRING, 4, 1)], [at(ASSIGNS, 0, 0, 101), at(ASSIGNS, 0, 1, 1)]],
+          4: [[at(NAMES, 0, 0, 99)]],
+          5: [[at(CONSTANTS, 0, 0, 0x0C)], [at(CHAINS, 1, 7, 9)], [at(FUNCTIONS, 0, 1, 2)]],
+          6: [TOWER],
+          7: [[at(CONSTANTS, 4, 1, 0xD800)]],
+          8: [[at(CASES, 0, 1, 99)]],
+          9: [[head(3, 2 ** 32)], [at(ASSIGNS, 0, 2, 2 ** 32)], [at(SWITCHES, 1, 2, 2 ** 32)], [at(PARAMETERS, 1, 0, 2 ** 32)]],
+          10: [[head(POSITIONS + 1, 7)]],
+          11: [[f'f {LIMIT} 71', head(CODE, END), head(CODE + 1, LIMIT)]]}
 
 
 def pairs():
-    for first in range(1, 12):
-        case(f'rule {first} is broken', 'rich', *together(first), rule=first, ways=[KEPT, STRIPPED, (1, 0, 0)])
-        for second in range(first + 1, 12):
-            case(f'rules {first} and {second} are broken', 'rich', *together(first, second), rule=first)
-    case('all rules are broken', 'rich', *together(*range(1, 12)), rule=1)
+    for first, breaks in BREAKS.items():
+        for k, lines in enumerate(breaks, 1):
+            case(f'rule {first} is broken, way {k}', 'rich', *lines, rule=first, ways=[KEPT, STRIPPED, (1, 0, 0)])
+            for second in range(first + 1, 12):
+                for j, more in enumerate(BREAKS[second], 1):
+                    case(f'rules {first} and {second} are broken, ways {k} and {j}', 'rich', *lines, *more, rule=first)
+    case('all rules are broken', 'rich', *[line for breaks in BREAKS.values() for line in breaks[0]], rule=1)
 
 
 # ── the files ──
@@ -481,7 +485,7 @@ def rewritten():
 def made_files():
     again, accepted = rewritten()
     files = dict(zip(('tables.txt', 'written.txt', 'rewritten.txt'), [*cases_and_answers(), again]))
-    return files, f'{len(STORED)} cases of tables in {sum(len(ways) for _, _, _, ways, _ in STORED)} ways, and {accepted} artifacts to be written again'
+    return files, f'{len(STORED)} cases of tables in {sum(len(ways) for _, _, _, ways, _ in STORED)} ways, and {accepted} artifacts'
 
 
 if __name__ == '__main__':

@@ -2,6 +2,7 @@
 use super::rules::items;
 use crate::inputs::bytes::put_padded;
 use crate::lent::{Lent, BLOB, CODE, POSITIONS, SOURCE, TOPS};
+use crate::refusals::LONGEST;
 
 pub fn artifact(m: Lent, strip: bool) -> Vec<u8> {
     let mut out = Out { m, strip, bytes: Vec::new() };
@@ -55,10 +56,10 @@ impl<'a> Out<'a> {
         self.bytes.extend(&word.to_le_bytes()[..size]);
     }
 
-    /// A length and the bytes of a span.
+    /// A length and the bytes of a span. What is too long already grows by no more texts, which may be the same one many times.
     fn run(&mut self, span: [u64; 2]) {
         self.number(span[1]);
-        if span[1] > 0 {
+        if span[1] > 0 && self.bytes.len() <= LONGEST {
             self.bytes.extend(self.m.part(span));
         }
     }
