@@ -1,8 +1,10 @@
-//! Reads from several threads at once, each into tables of its own: they must answer as one alone.
+//! Reads and writes from several threads at once, each with tables of its own: they must answer as one alone.
+use super::wounded::in_room;
 use super::{ample, in_places, MASK};
 use beside::inputs::artifacts::artifact;
 use beside::inputs::bytes::damage;
 use beside::inputs::Random;
+use beside::lent::{Model, Way};
 use beside::reference;
 use std::sync::Barrier;
 use std::thread;
@@ -27,13 +29,17 @@ pub fn all() {
             scope.spawn(move || one(files, k * files.len() / THREADS, start));
         }
     });
-    println!("artifacts read by {THREADS} threads at once: {} inputs agree", THREADS * files.len());
+    println!("artifacts read, and written again, by {THREADS} threads at once: {} inputs agree", THREADS * files.len());
 }
 
 fn one(files: &[Vec<u8>], first: usize, start: &Barrier) {
     start.wait();
     for bytes in files[first..].iter().chain(&files[..first]) {
         let places = ample(bytes);
-        in_places(bytes, MASK, places, &reference::read(bytes, MASK, places));
+        let expected = reference::read(bytes, MASK, places);
+        in_places(bytes, MASK, places, &expected);
+        if expected.words[0] == 0 {
+            in_room(&Model::of(&expected, bytes), Way { mask: MASK, strip: 0 }, bytes.len());
+        }
     }
 }

@@ -52,7 +52,7 @@ fn tried(model: &Model, way: Way) -> Row {
 }
 
 /// The answer, and every byte of the output, which holds something else before.
-fn in_room(model: &Model, way: Way, room: usize) -> Row {
+pub fn in_room(model: &Model, way: Way, room: usize) -> Row {
     let before: Vec<u8> = (0..room).map(|k| (k as u8).wrapping_mul(0x65) ^ 0xa5).collect();
     let mut outs = [before.clone(), before];
     let expected = reference::write(model.lent(), way, &mut outs[0]);
