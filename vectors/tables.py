@@ -281,6 +281,8 @@ def rule_6():
     case('an array of one under 64 arrays', 'least', *tower(*array)(64, rows(CONSTANTS, 1, *array), rows(CONSTANTS, 1, *[0] * 8)), used(CONSTANTS, 66), head(17, 1), rule=6)
     for n in (1000, 100_000):
         case(f'a unit under {n} arrays', 'least', *tower(*array)(n), used(CONSTANTS, n + 1), head(17, 1), rule=6)
+    case('a unit under 10000 maps', 'least', *tower(8, 0, 0, 0, 0, 1, 0, 0)(10_000), used(CONSTANTS, 10_001), head(17, 1), rule=6)
+    case('a bad key under 10000 maps', 'least', *tower(8, 0, 0, 0, 0, 1, 0, 0)(10_000), used(CONSTANTS, 10_001), head(17, 1), at(CONSTANTS, 10_000, 7, 1), rule=2)
     deep = tower(*array)(64)
     accepted('64 levels, twice', 'least', *deep, *deep, used(CONSTANTS, 130), head(17, 2))
     case('64 levels, then 65', 'least', *deep, *tower(*array)(65), used(CONSTANTS, 131), head(17, 2), rule=6)
