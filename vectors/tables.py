@@ -325,7 +325,9 @@ def rule_9():
     for name, table, row, k in [('a root', CHAINS, 1, 3), ('this', CHAINS, 2, 3), ('an index', STEPS, 0, 7), ('a bracket', STEPS, 0, 9), ('a property', STEPS, 1, 7), ('a method', STEPS, 2, 7)]:
         case(f'line 0 of {name}, column 1', 'rich', at(table, row, k, 0), at(table, row, k + 1, 1), rule=9, ways=[KEPT, STRIPPED])
         accepted(f'line 0 of {name}, column 0', 'rich', at(table, row, k, 0), at(table, row, k + 1, 0))
-        accepted(f'line 1 of {name}, column 0', 'rich', at(table, row, k, 1), at(table, row, k + 1, 0))
+        for column in (0, 1):
+            accepted(f'line 1 of {name}, column {column}', 'rich', at(table, row, k, 1), at(table, row, k + 1, column))
+    accepted('a range that is not inclusive', 'rich', at(RANGES, 0, 2, 0))
     for literal in (0xFFFFFFFF, 2 ** 32, MOST):
         case(f'literal {literal:X}', 'rich', at(INPUTS, 0, 4, literal), rule=9)
         accepted(f'an absent literal kept as {literal:X}', 'rich', at(INPUTS, 1, 4, literal))
@@ -411,6 +413,7 @@ def unused():
             lines = garbage(table, row)
             everything += lines
             accepted(f'table {table + 1}, row {row}: what its tag does not use is not looked at', 'rich', *lines, ways=[KEPT])
+    accepted('a temporary root, of which the chain uses nothing more', 'rich', rows(CHAINS, 1, 2, MOST, MOST, MOST, MOST, 5, 0, 1, MOST), used(CHAINS, 4))
     accepted('what no tag uses is not looked at', 'rich', *everything, at(INPUTS, 1, 4, MOST))
 
 
