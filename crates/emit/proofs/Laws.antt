@@ -12,12 +12,16 @@ use Rattle.emit.specs.Puts.{Puts}
 pub puts-none : {e : List ℕ} {at next : ℕ} → next ≡ min (at + 0) 1048577 → Puts [] e at e next
 puts-none is = record { next = is; kept = refl; stored = λ _ _. refl }
 
--- nothing is touched where the place behind lies past the limit, or past the end of the output
+-- nothing is touched where the bytes do not fit: past the limit, or past the end of the output
+pub puts-nowhere : {bytes e : List ℕ} {at next : ℕ} → next ≡ min (at + length bytes) 1048577 →
+    (at + length bytes ≤ length e → at + length bytes ≤ 1048576 → ⊥) → Puts bytes e at e next
+puts-nowhere is cannot = record { next = is; kept = refl; stored = λ fits near. absurd (cannot fits near) }
+
 pub puts-far : {bytes e : List ℕ} {at next : ℕ} → next ≡ min (at + length bytes) 1048577 → 1048576 < next → Puts bytes e at e next
-puts-far is far = record { next = is; kept = refl; stored = λ _ near. absurd (omega arith) }
+puts-far is far = puts-nowhere is (λ _ near. omega arith)
 
 pub puts-full : {bytes e : List ℕ} {at next : ℕ} → next ≡ min (at + length bytes) 1048577 → length e < next → Puts bytes e at e next
-puts-full is full = record { next = is; kept = refl; stored = λ fits _. absurd (omega arith) }
+puts-full is full = puts-nowhere is (λ fits _. omega arith)
 
 -- all is stored
 pub puts-stored : {bytes e exit : List ℕ} {at next : ℕ} → next ≡ min (at + length bytes) 1048577 → exit ≡ sets e at bytes → Puts bytes e at exit next

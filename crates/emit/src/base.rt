@@ -30,18 +30,27 @@ pub fn moved(at: usize, n: usize) -> usize
 pub fn byte(out: &mut [u8], at: usize, b: u8) -> usize
     ensures { λ r. ⌜ Puts (b ∷ []) (now (out .entry)) at (now (out .exit)) r ⌝ }
 {
-    let next = moved(at, 1);
-    if Limit::BYTES < next {
-        return next;
+    if out.len() <= at {
+        return moved(at, 1);
     }
-    if out.len() < next {
-        return next;
+    if Limit::BYTES <= at {
+        return moved(at, 1);
     }
     out[at] = b;
-    next
+    at + 1
 }
 
+// Most numbers are a single byte.
 pub fn number(out: &mut [u8], at: usize, v: u64) -> usize
+    ensures { λ r. ⌜ Puts (shortest v) (now (out .entry)) at (now (out .exit)) r ⌝ }
+{
+    if v < 128 {
+        return byte(out, at, v as u8);
+    }
+    long(out, at, v)
+}
+
+fn long(out: &mut [u8], at: usize, v: u64) -> usize
     ensures { λ r. ⌜ Puts (shortest v) (now (out .entry)) at (now (out .exit)) r ⌝ }
 {
     let next = moved(at, varint::size(v));

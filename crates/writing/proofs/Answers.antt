@@ -53,7 +53,8 @@ in-front {bytes} {out} p room short =
     p .stored (rw here room) (rw here short) ∙ (rw here at (sets-eq bytes out 0 (rw here room)))
 
 -- a count that is not past the longest file is the length
-whole : (stripped : Bool) (m : Lent) (size : ℕ) → size ≡ min (length (bytesOf stripped (saying true m))) 1048577 → size ≤ 1048576 → length (bytesOf stripped m) ≡ size
+whole : (stripped : Bool) (m : Lent) (size : ℕ) → size ≡ min (length (bytesOf stripped (saying true m))) 1048577 → size ≤ 1048576 →
+    length (bytesOf stripped m) ≡ size
 whole stripped m size is short = rw (← same-bytes stripped m) (omega (arith, is))
 
 module _ {mask : ℕ} {stripped : Bool} {m : Lent} {out : List ℕ} where

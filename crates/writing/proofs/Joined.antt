@@ -6,7 +6,7 @@ use mathlib.Core.List.{List, _++_, append-assoc}
 use Rattle.grammar.specs.Number.{shortest}
 use Rattle.format.specs.Artifact.{levels}
 use Rattle.written.specs.Meaning.{Meaning}
-use Rattle.written.specs.Put.{put, putHeader, putBytes, putList, putConstant, putAssign, putChain, putSwitch, putSite, putChunk, putFunction}
+use Rattle.written.specs.Put.{put, putHeader, putBytes, putList, putConstant, putAssign}
 use Rattle.written.specs.Strip.{strip}
 use Rattle.model.specs.Lent.{Lent}
 use Rattle.model.specs.Tables.{meaningOf}
@@ -14,40 +14,26 @@ use Rattle.model.specs.Written.{inWay, bytesOf}
 use Rattle.emit.specs.Puts.{Puts}
 use Rattle.emit.proofs.Laws.{puts-same, puts-then}
 use Rattle.writing.specs.Ready.{Ready}
-use Rattle.writing.specs.Halves.{frontBytes, backBytes}
+use Rattle.writing.specs.Halves.{putFront, putBack, frontBytes, backBytes}
 use Rattle.writing.proofs.Rows.{Exact, exact}
 
 -- ── of a meaning ──
 
+-- names are one section in the definition
 regroup : (header source ends blob constants tokens assigns rest : List ℕ) →
     (header ++ (source ++ (ends ++ (blob ++ (constants ++ (tokens ++ assigns)))))) ++ rest
     ≡ header ++ (source ++ ((ends ++ blob) ++ (constants ++ (tokens ++ (assigns ++ rest)))))
 regroup header source ends blob constants tokens assigns rest = simp append-assoc
 
-both : {a b c d : List ℕ} → a ≡ c → b ≡ d → a ++ b ≡ c ++ d
-both p q = rw (p, q)
+alike : {a b c d : List ℕ} → a ≡ c → b ≡ d → a ++ b ≡ c ++ d
+alike p q = rw (p, q)
 
 module _ (p : Meaning) where
-  -- up to the assign records; names are two sections here, ends and the blob
   abbrev front : List ℕ
-  front =
-      putHeader (p .header)
-      ++ (putBytes (p .source)
-      ++ (putList shortest (p .names .ends)
-      ++ (putBytes (p .names .blob)
-      ++ (putList (putConstant levels) (p .constants)
-      ++ (putList putBytes (p .tokens)
-      ++ putList putAssign (p .assigns))))))
+  front = putFront (p .header) (p .source) (p .names .ends) (p .names .blob) (p .constants) (p .tokens) (p .assigns)
 
   abbrev back : List ℕ
-  back =
-      putList putChain (p .chains)
-      ++ (putList putSwitch (p .switches)
-      ++ (putList putSite (p .customs)
-      ++ (putChunk (p .main)
-      ++ (putList putFunction (p .functions)
-      ++ (putBytes (p .code)
-      ++ putBytes (p .positions))))))
+  back = putBack (p .chains) (p .switches) (p .customs) (p .main) (p .functions) (p .code) (p .positions)
 
   halves : front ++ back ≡ put p
   unfolding put
@@ -77,8 +63,9 @@ module _ (m : Lent) where
 
   joined : (stripped : Bool) → Exact m → frontOf ++ backOf stripped ≡ bytesOf stripped m
   unfolding bytesOf
-  joined stripped x = both (front-means stripped) (back-means stripped x) ∙ halves (inWay stripped (meaningOf m))
+  joined stripped x = alike (front-means stripped) (back-means stripped x) ∙ halves (inWay stripped (meaningOf m))
 
+-- one half behind the other
 pub puts-halves : {m : Lent} (stripped : Bool) {e x exit : List ℕ} {mid next : ℕ} → Ready m → Puts (frontOf m) e 0 x mid →
     Puts (backOf m stripped) x mid exit next → Puts (bytesOf stripped m) e 0 exit next
 puts-halves {m} stripped r p q = puts-same (joined m stripped (exact r)) (puts-then p q)

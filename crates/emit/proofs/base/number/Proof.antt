@@ -1,32 +1,35 @@
--- Past the limit or the end nothing is touched.
-use Rattle.emit.proofs.Laws.{puts-far, puts-full}
-use native.Mathlib.Omega.{arith}
+-- A single byte, or more.
+use mathlib.Core.Path.{sym}
+use Rattle.grammar.specs.Number.{shortest}
+use Rattle.varint.proofs.Shortest.{last-group}
+use Rattle.emit.proofs.Laws.{puts-same}
 use borrow.Author.Needs.{needs}
 use Rattle.emit.proofs.base.number.Statement.{statement}
 use Rattle.emit.proofs.base.number.Tie as tie
 
-size-requires : tie.Need-size-requires
-size-requires c κs = search needs
+cast-byte : tie.Need-cast-byte
+cast-byte c = search needs
 
-moved-requires : tie.Need-moved-requires
-moved-requires c κs = search needs
-
-returns : tie.Need-returns
-returns c = puts-far (omega arith) (c .if1 .taken)
-
-returns-2 : tie.Need-returns-2
-returns-2 c = puts-full (omega arith) (c .if2 .taken)
-
-put-at-requires : tie.Need-put-at-requires
-put-at-requires c κs = search needs
+byte-requires : tie.Need-byte-requires
+byte-requires c κs = search needs
 
 same-length : tie.Need-same-length
 same-length c = search needs
 
-returns-3 : tie.Need-returns-3
-returns-3 c = search needs
+returns : tie.Need-returns
+unfolding shortest
+returns c = puts-same (sym (last-group 9 _ (c .before .before .before .before .if1 .taken))) (c .before .before .byte .ensures)
+
+long-requires : tie.Need-long-requires
+long-requires c κs = search needs
+
+same-length-2 : tie.Need-same-length-2
+same-length-2 c = search needs
+
+returns-2 : tie.Need-returns-2
+returns-2 c = search needs
 
 pub number-spec : {M : Type 1} → statement M
 number-spec =
     tie.close
-    (tie.spec size-requires moved-requires returns returns-2 put-at-requires same-length returns-3)
+    (tie.spec cast-byte byte-requires same-length returns long-requires same-length-2 returns-2)
