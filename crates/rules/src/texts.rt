@@ -86,10 +86,14 @@ fn asked(rule: u8, tag: u64) -> bool
     }
 }
 
+// What a tag does not use is not looked at: a span that nothing asks about may be as long as the text.
 pub fn text_keeps(rule: u8, row: [u64; 8], text: &[u8]) -> bool
     ensures { λ r. ⌜ r ≡ keeps.keepsText rule (now (text .entry)) row ⌝ }
 {
-    either(!asked(rule, row[0]), span_keeps(rule, text, row[3], row[4]))
+    if !asked(rule, row[0]) {
+        return true;
+    }
+    span_keeps(rule, text, row[3], row[4])
 }
 
 fn known_constant(row: [u64; 8]) -> bool
