@@ -5,7 +5,8 @@ use mathlib.Core.Bool.{Bool, true, false}
 use mathlib.Core.List.{List, [], _∷_}
 use native.Mathlib.Nat.{zero-add}
 use native.Mathlib.Omega.{arith}
-use lib.ListN.{length}
+use lib.ListN.{length, getD}
+use lib.Bits.{bitOr}
 use lib.Dec.{ltb, leb, eqb}
 use borrow.Author.Tests.{lt-ltb, le-ltb, ltb-true, ltb-false, eq-eqb}
 use Rattle.refusal.specs.declared.Refusal.{Refusal}
@@ -24,6 +25,7 @@ use Rattle.pos.specs.Table.{inTable, field, Previous, none, earlier, rea
 use Rattle.pos.specs.Steps.{reachOf, reachIs, placed, entryAt, endedAt, endsAs}
 use Rattle.pos.specs.declared.skim.ShortSite.{ShortSite}
 use Rattle.pos.specs.declared.skim.Walk.{Walk}
+use Rattle.pos.proofs.Shorts.{number-is, field-one, plain-three, low-one}
 use Rattle.pos.specs.Skim.{Whole, SiteAt, Entry, Before, first, later, walkAt, begins, SingleAt, CheckingAt, Checking, sought, Runs}
 
 -- a field fits 32 bits
@@ -295,6 +297,16 @@ pub checking-sound : {s : List ℕ} {w : Walk} → Checking s w → w .left ≡ 
 checking-sound {s} {w} g none-left all-read =
     let ends : Checked.Sound ≡ endedAt (length s) (w .c .at) = rw (eq-eqb (w .c .at) (length s) all-read) in
     ends ∙ checking-ended (g .at) (omega arith)
+
+-- one entry behind a count of one, and no byte more
+pub alone-sound : (s : List ℕ) → length s ≡ 4 → getD s 0 0 ≡ 1 → bitOr (bitOr (getD s 1 0) (getD s 2 0)) (getD s 3 0) < 128 → Checked.Sound ≡ checked s
+alone-sound s size one low =
+    let n : SingleAt s 1 = λ _. number-is 1 (omega arith) (rw one at (field-one s start (omega arith) (omega arith))) in
+    let entry : Moves s 1 (getD s 1 0) 4 = record { size = 3; entry = plain-three s (record { at = 1 }) (omega arith) low; is = refl; inside = omega arith } in
+    let g : Running s 1 1 0 (2 ^ 32) 1 1 0 (2 ^ 32) = record { runs = runs-begins s 1 1 0 (2 ^ 32); inside = omega arith } in
+    let step-below : getD s 1 0 < 128 = low-one (getD s 1 0) (getD s 2 0) (getD s 3 0) low in
+    let passed : Running s 1 1 0 (2 ^ 32) 4 0 1 (2 ^ 32 - getD s 1 0) = running-more g (omega arith) entry (omega arith) (omega arith) in
+    checking-sound (single-runs n (λ h. absurd (omega arith)) (passed .runs)) refl (omega arith)
 
 -- resolving goes on where a walk below the address asked has run
 pub record Seeking (s : List ℕ) (asked : ℕ) (from w : Walk) : Type 0 where

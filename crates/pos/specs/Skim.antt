@@ -1,11 +1,13 @@
 -- What skimming says: short numbers and entries as the definitions read them, and what is still to be read behind them.
 use Prim.Native.Nat.{ℕ, _+_, _-_, _^_, _<_, _≤_}
 use mathlib.Core.Path.{_≡_}
+use mathlib.Core.Bool.{Bool, true}
 use mathlib.Core.List.{List}
 use lib.ListN.{length}
 use Rattle.grammar.specs.declared.Cursor.{Cursor}
 use Rattle.grammar.specs.Outcome.{start, advanced, got}
 use Rattle.pos.specs.declared.Site.{Site}
+use Rattle.pos.specs.declared.Checked.{Checked}
 use Rattle.pos.specs.declared.Resolved.{Resolved}
 use Rattle.pos.specs.declared.skim.Short.{Short}
 use Rattle.pos.specs.declared.skim.ShortSite.{ShortSite}
@@ -69,9 +71,9 @@ pub record Checking (s : List ℕ) (w : Walk) : Type 0 where
   pub within : w .room ≤ 2 ^ 32
   pub at : CheckingAt s (w .c) (w .left) (w .least) (2 ^ 32 - w .room)
 
--- the same where the count was short, as the place says
-abbrev pub CheckingOn : List ℕ → Walk → Type 0
-CheckingOn s w = 0 < w .c .at → Checking s w
+-- a table that is seen to be sound
+abbrev pub SoundAt : List ℕ → Bool → Type 0
+SoundAt s b = b ≡ true → Checked.Sound ≡ checked s
 
 -- what resolving still has to read, behind an address
 abbrev pub sought : List ℕ → ℕ → Cursor → ℕ → ℕ → Resolved

@@ -5,7 +5,7 @@ ghost use lib.ListN.{length};
 ghost use Rattle.pos.specs.Encode.{sitesOf, encoded, encodedBytes};
 ghost use Rattle.pos.specs.Table.{counted, checked, resolved, siteFor};
 ghost use Rattle.pos.specs.Steps.{endedAt};
-ghost use Rattle.pos.specs.Skim.{Checking, CheckingOn, sought};
+ghost use Rattle.pos.specs.Skim.{Checking, sought};
 use grammar::Cursor;
 use reading::ReadSite;
 use refusal::PositionsFault;
@@ -168,31 +168,25 @@ pub fn count(table: &[u8]) -> Counted
     }
 }
 
-// Whether a table is well formed, so that resolving need not look: the first thing wrong.
+// Whether a table is well formed, so that resolving need not look: the first thing wrong. Most tables are sound and short,
+// and are seen to be: this much is inlined where it is called.
 pub fn check(table: &[u8]) -> Checked
     ensures { λ r. ⌜ r ≡ checked (now (table .entry)) ⌝ }
 {
-    let n = skim::single(table);
-    if n == 0 {
-        return check_on(table, skim::begun(Cursor::new(), 0, 0));
+    if skim::alone(table) {
+        return Checked::Sound;
     }
-    let w = skim::run(table, 1, n, 0, 0x1_0000_0000);
-    if w.left == 0 {
-        if w.c.at == table.len() {
-            return Checked::Sound;
-        }
+    if skim::passes(table) {
+        return Checked::Sound;
     }
-    check_on(table, w)
+    check_long(table)
 }
 
-// The rest of a check, which most tables do not need. It stands apart so that `check` is small enough to be inlined.
-fn check_on(table: &[u8], from: Walk) -> Checked
-    requires { ⌜ CheckingOn (now table) from ⌝ }
+// The same at the cost of a call, for those who check a long table, and for what `check` has not seen to be sound. Called
+// from one place, it would be inlined there, and `check` nowhere.
+pub fn check_long(table: &[u8]) -> Checked
     ensures { λ r. ⌜ r ≡ checked (now (table .entry)) ⌝ }
 {
-    if 0 < from.c.at {
-        return entries(table, from);
-    }
     match reading::field(table, Cursor::new()) {
         ReadIndex::Got { value, next } => entries(
             table,

@@ -1,7 +1,7 @@
 // Most numbers of a table take at most three bytes, and most entries three to five. They are passed here, with no
 // refusal at hand: what is not short is left to the readers of reading.rt.
 ghost use mathlib.Core.Path.{_≡_};
-ghost use Rattle.pos.specs.Skim.{none, noSite, begins, walkAt, NumberAt, SingleAt, SiteAt, Runs};
+ghost use Rattle.pos.specs.Skim.{none, noSite, begins, walkAt, NumberAt, SingleAt, SiteAt, SoundAt, Runs};
 use grammar::Cursor;
 
 // A number, and how many bytes it takes; 0 bytes say that it is not short.
@@ -140,6 +140,19 @@ pub fn single(table: &[u8]) -> u32
     0
 }
 
+// A table of one entry, of single bytes, by one look.
+pub fn alone(table: &[u8]) -> bool
+    ensures { λ b. ⌜ SoundAt (now (table .entry)) b ⌝ }
+{
+    if table.len() != 4 {
+        return false;
+    }
+    if table[0] != 1 {
+        return false;
+    }
+    table[1] | table[2] | table[3] < 128
+}
+
 fn standing(at: usize, left: u32, least: u32, room: u64) -> Walk
     ensures { λ w. ⌜ w ≡ walkAt at left least room ⌝ }
 {
@@ -201,4 +214,19 @@ pub fn run(table: &[u8], from: usize, count: u32, over: u32, within: u64) -> Wal
         room -= step as u64;
     }
     standing(at, left, least, room)
+}
+
+// Whether a walk from a count of a single byte ends with the table.
+pub fn passes(table: &[u8]) -> bool
+    ensures { λ b. ⌜ SoundAt (now (table .entry)) b ⌝ }
+{
+    let n = single(table);
+    if n == 0 {
+        return false;
+    }
+    let w = run(table, 1, n, 0, 0x1_0000_0000);
+    if w.left == 0 {
+        return w.c.at == table.len();
+    }
+    false
 }

@@ -15,7 +15,7 @@ pub fn sound_table(text: &[u8], span: Span) -> bool
     if span.size == 0 {
         return true;
     }
-    is_sound(pos::check(&text[start..end]))
+    is_sound(pos::check_long(&text[start..end]))
 }
 
 fn is_sound(c: Checked) -> bool

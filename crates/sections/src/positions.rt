@@ -34,5 +34,5 @@ fn sound(s: &[u8], span: Span) -> Checked
         return Checked::Sound;
     }
     let end = start + size;
-    pos::check(&s[start..end])
+    pos::check_long(&s[start..end])
 }

@@ -11,24 +11,24 @@ add-end c = search needs
 returns : tie.Need-returns
 returns c = rw (c .if1 .taken)
 
-sub-check : tie.Need-sub-check
-sub-check c = search needs
+sub-check-long : tie.Need-sub-check-long
+sub-check-long c = search needs
 
-part-check-start : tie.Need-part-check-start
-part-check-start c = search needs
+part-check-long-start : tie.Need-part-check-long-start
+part-check-long-start c = search needs
 
-part-check-end : tie.Need-part-check-end
-part-check-end c = search needs
+part-check-long-end : tie.Need-part-check-long-end
+part-check-long-end c = search needs
 
-check-requires : tie.Need-check-requires
-check-requires c κs = search needs
+check-long-requires : tie.Need-check-long-requires
+check-long-requires c κs = search needs
 
 is-sound-requires : tie.Need-is-sound-requires
 is-sound-requires c κs = search needs
 
 returns-2 : tie.Need-returns-2
 returns-2 c =
-    rw (ne-eqb _ _ (c .before .before .before .if1 .left), c .is-sound .ensures, c .before .check .ensures, whole-run (c .before .before .before .before .before .before .before .args .span .start) (c .before .before .before .before .before .before .before .args .span .size))
+    rw (ne-eqb _ _ (c .before .before .before .if1 .left), c .is-sound .ensures, c .before .check-long .ensures, whole-run (c .before .before .before .before .before .before .before .args .span .start) (c .before .before .before .before .before .before .before .args .span .size))
 
 pub sound-table-spec : {M : Type 1} → statement M
 sound-table-spec =
@@ -36,9 +36,9 @@ sound-table-spec =
     (tie.spec
     add-end
     returns
-    sub-check
-    part-check-start
-    part-check-end
-    check-requires
+    sub-check-long
+    part-check-long-start
+    part-check-long-end
+    check-long-requires
     is-sound-requires
     returns-2)

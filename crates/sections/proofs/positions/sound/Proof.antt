@@ -18,26 +18,26 @@ add-end : tie.Need-add-end
 add-end c = search needs
 
 -- src/positions.rt:37:16
-sub-check : tie.Need-sub-check
-sub-check c = search needs
+sub-check-long : tie.Need-sub-check-long
+sub-check-long c = search needs
 
 -- src/positions.rt:37:16
-part-check-start : tie.Need-part-check-start
-part-check-start c = search needs
+part-check-long-start : tie.Need-part-check-long-start
+part-check-long-start c = search needs
 
 -- src/positions.rt:37:16
-part-check-end : tie.Need-part-check-end
-part-check-end c = search needs
+part-check-long-end : tie.Need-part-check-long-end
+part-check-long-end c = search needs
 
 -- src/positions.rt:37:5
-check-requires : tie.Need-check-requires
-check-requires c κs = search needs
+check-long-requires : tie.Need-check-long-requires
+check-long-requires c κs = search needs
 
 -- src/positions.rt:27:1
 returns-2 : tie.Need-returns-2
-returns-2 c = rw (ne-eqb _ _ (c .before .before .if1 .left)) (c .check .ensures ∙ ap (λ (n : ℕ). checked (take n (drop (c .before .before .before .before .args .span .start) (c .before .before .before .before .args .s .now)))) (whole-run (c .before .before .before .before .args .span .start) (c .before .before .before .before .args .span .size)))
+returns-2 c = rw (ne-eqb _ _ (c .before .before .if1 .left)) (c .check-long .ensures ∙ ap (λ (n : ℕ). checked (take n (drop (c .before .before .before .before .args .span .start) (c .before .before .before .before .args .s .now)))) (whole-run (c .before .before .before .before .args .span .start) (c .before .before .before .before .args .span .size)))
 
 pub sound-spec : {M : Type 1} → statement M
 sound-spec =
     tie.close
-    (tie.spec returns add-end sub-check part-check-start part-check-end check-requires returns-2)
+    (tie.spec returns add-end sub-check-long part-check-long-start part-check-long-end check-long-requires returns-2)
