@@ -1,16 +1,18 @@
 -- The groups of a number: how seven bits are joined to those read before, and what the definition says while k groups are held.
 use Prim.Native.Nat.{ℕ, suc, _+_, _*_, _%_, _^_, _-_, _≤_, _<_}
 use mathlib.Core.Path.{_≡_, refl, _∙_, ap}
+use mathlib.Core.Bool.{Bool, true, false}
 use mathlib.Core.List.{List}
 use native.Mathlib.Nat.{add-comm, add-assoc, add-zero, mul-le-mul-right, lt-of-lt-of-le}
 use native.Mathlib.Omega.{arith}
 use lib.ListN.{length, getD}
 use lib.Bits.{bitAnd, bitOr, and-mask, or-shifted-r}
 use lib.Pow.{shl-exact, pow-add, pow-mono}
-use borrow.Author.Tests.{lt-ltb, le-ltb, le-leb, lt-leb}
+use lib.Dec.{ltb}
+use borrow.Author.Tests.{lt-ltb, le-ltb, le-leb, lt-leb, ltb-true, ltb-false}
 use Rattle.refusal.specs.declared.Refusal.{Refusal}
 use Rattle.grammar.specs.declared.Cursor.{Cursor}
-use Rattle.grammar.specs.Outcome.{advanced, Outcome, got, refused, after, pure, _>>=_, _>>_}
+use Rattle.grammar.specs.Outcome.{advanced, Outcome, got, refused, after, pure, refuse, _>>=_, _>>_}
 use Rattle.grammar.specs.Combinators.{taking, byte}
 use Rattle.grammar.specs.Number.{groups, number}
 use Rattle.grammar.proofs.Number.{tested, number-tested}
@@ -23,7 +25,7 @@ joined-is value byte k h fits =
     rw (and-mask byte 7, shl-exact {a = byte % 128} 7 (7 * k) 64 (omega arith) (omega arith), or-shifted-r (byte % 128) (7 * k) value fits)
     (add-comm _ _)
 
-seven-more : (k : ℕ) → 2 ^ (7 * (k + 1)) ≡ 128 * 2 ^ (7 * k)
+pub seven-more : (k : ℕ) → 2 ^ (7 * (k + 1)) ≡ 128 * 2 ^ (7 * k)
 seven-more k = ap (λ (n : ℕ). 2 ^ n) (omega arith) ∙ pow-add 2 7 (7 * k)
 
 -- one group joined is still below the next power
@@ -99,3 +101,22 @@ module _ {s : List ℕ} {c : Cursor} {value k : ℕ} (g : Holding s c value k) w
           let n : 10 - k ≡ suc (9 - k) = omega arith in
           let n′ : 10 - (k + 1) ≡ 9 - k = omega arith in
           rw (g .rest, n, n′) (held-more s c k (9 - k) value h more)
+
+-- the tenth group has room for one bit
+module _ {s : List ℕ} {c : Cursor} {value : ℕ} (g : Holding s c value 9) (h : c .at + 9 < length s) where
+  pub holding-tenth : getD s (c .at + 9) 0 ≤ 1 → number 64 s c ≡ got (value + getD s (c .at + 9) 0 * 2 ^ 63) (advanced c 10)
+  holding-tenth fits =
+      let same : getD s (c .at + 9) 0 % 128 ≡ getD s (c .at + 9) 0 = omega arith in
+      let below : value + getD s (c .at + 9) 0 * 2 ^ 63 < 2 ^ 64 = omega (arith, g .fits) in
+      rw (number-from g (held-last s c 9 0 value h (omega arith)), same, lt-ltb _ (2 ^ 64) below)
+
+  pub holding-over : 1 < getD s (c .at + 9) 0 → number 64 s c ≡ refused Refusal.MalformedVarint
+  unfolding groups refuse
+  holding-over over = go (ltb (getD s (c .at + 9) 0) 128) refl
+    where
+      go : (t : Bool) → ltb (getD s (c .at + 9) 0) 128 ≡ t → number 64 s c ≡ refused Refusal.MalformedVarint
+      go true e =
+          let l : getD s (c .at + 9) 0 < 128 = ltb-true _ _ e in
+          let above : 2 ^ 64 ≤ value + getD s (c .at + 9) 0 % 128 * 2 ^ 63 = omega arith in
+          rw (number-from g (held-last s c 9 0 value h l), le-ltb _ (2 ^ 64) above)
+      go false e = number-from g (held-more s c 9 0 value h (ltb-false _ _ e))

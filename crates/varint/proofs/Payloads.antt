@@ -1,5 +1,5 @@
--- The payloads of a word's bytes side by side: how they are squeezed, what they come to, and where they are too many bits.
-use Prim.Native.Nat.{ℕ, zero, suc, _+_, _*_, _/_, _%_, _^_, _-_, _≤_, _<_}
+-- The payloads of a word's bytes side by side: how they are squeezed, and what they come to.
+use Prim.Native.Nat.{ℕ, zero, suc, _+_, _*_, _/_, _%_, _^_, _<_}
 use mathlib.Core.Path.{_≡_, refl, sym, _∙_, ap}
 use mathlib.Core.Bool.{Bool, true, false}
 use mathlib.Core.List.{List, [], _∷_}
@@ -95,24 +95,13 @@ squeezed-is x fits = go _ _ _ _ _ _ _ refl refl refl refl refl refl refl
         squeezed-digits (x % 256) (b % 256) (c % 256) (d % 256) (e % 256) (f % 256) (g % 256) h
         (omega arith) (omega arith) (omega arith) (omega arith) (omega arith) (omega arith) (omega arith) (omega arith) x (omega arith)
 
--- so many payloads of a word that has no more bytes: within a bound, or not
-pub payloads-below : (n x : ℕ) → x < 2 * 2 ^ (8 * n) → payloads (suc n) x < 2 * 2 ^ (7 * n)
+-- seven bits a byte
+pub payloads-lt : (n x : ℕ) → payloads n x < 2 ^ (7 * n)
 unfolding payloads
-payloads-below zero x h = omega arith
-payloads-below (suc n) x h =
-    let more : 2 ^ (8 * suc n) ≡ 2 ^ (8 * n) * 256 = ap (λ (k : ℕ). 2 ^ k) (omega arith) ∙ pow-add 2 (8 * n) 8 in
-    let more′ : 2 ^ (7 * suc n) ≡ 2 ^ (7 * n) * 128 = ap (λ (k : ℕ). 2 ^ k) (omega arith) ∙ pow-add 2 (7 * n) 7 in
-    let rest : payloads (suc n) (x / 256) < 2 * 2 ^ (7 * n) = payloads-below n (x / 256) (omega arith) in
-    omega arith
-
-pub payloads-above : (n x : ℕ) → 2 * 2 ^ (8 * n) ≤ x → x < 128 * 2 ^ (8 * n) → 2 * 2 ^ (7 * n) ≤ payloads (suc n) x
-unfolding payloads
-payloads-above zero x h h′ = omega arith
-payloads-above (suc n) x h h′ =
-    let more : 2 ^ (8 * suc n) ≡ 2 ^ (8 * n) * 256 = ap (λ (k : ℕ). 2 ^ k) (omega arith) ∙ pow-add 2 (8 * n) 8 in
-    let more′ : 2 ^ (7 * suc n) ≡ 2 ^ (7 * n) * 128 = ap (λ (k : ℕ). 2 ^ k) (omega arith) ∙ pow-add 2 (7 * n) 7 in
-    let rest : 2 * 2 ^ (7 * n) ≤ payloads (suc n) (x / 256) = payloads-above n (x / 256) (omega arith) (omega arith) in
-    omega arith
+payloads-lt zero x = omega arith
+payloads-lt (suc n) x =
+    let more : 2 ^ (7 * suc n) ≡ 2 ^ (7 * n) * 128 = ap (λ (k : ℕ). 2 ^ k) (omega arith) ∙ pow-add 2 (7 * n) 7 in
+    omega (arith, payloads-lt n (x / 256))
 
 payloads-zero : (n : ℕ) → payloads n 0 ≡ 0
 unfolding payloads

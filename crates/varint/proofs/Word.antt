@@ -6,12 +6,12 @@ use mathlib.Core.List.{List, [], _∷_}
 use native.Mathlib.Nat.{pow-suc, mul-assoc}
 use native.Mathlib.Omega.{arith}
 use lib.Bits.{bitAnd, and-block, and-mask, and-high, and-zero-r}
-use lib.Pow.{pow-add, pow-pos}
+use lib.Pow.{pow-add}
 use lib.ListN.{length}
 use lib.Count.{trailingZeros}
 use lib.Dec.{ltb}
 use Rattle.grammar.specs.Combinators.{if_then_else_}
-use borrow.Author.Tests.{ltb-true, ltb-false}
+use borrow.Author.Tests.{le-ltb, ltb-true, ltb-false}
 use Rattle.varint.specs.Word.{word, Bytes, none, more}
 
 -- the top bit of each byte that has it clear, and so ends a number
@@ -95,6 +95,14 @@ kept-is (more {b} {bs} h r) some = go (λ q. kept-is r q) (ltb b 128) refl
         (and-block 8 (word bs) (ends bs - 1) b (2 ^ 8 - 1) (omega arith) (omega arith)
         ∙ ap₂ (λ (x y : ℕ). x * 2 ^ 8 + y) (rest behind) (and-mask b 8) ∙ omega arith)
 
+-- and where no byte ends it, all of them
+pub kept-all : (bs : List ℕ) → ends bs ≡ 0 → kept bs ≡ word bs
+unfolding word ends kept
+kept-all [] endless = refl
+kept-all (b ∷ bs) endless =
+    let l : 128 ≤ b = omega arith in
+    rw (le-ltb b 128 l, kept-all bs (omega arith))
+
 -- the lowest mark is the top bit of the byte that ends the number
 zeros-even : (k m : ℕ) → trailingZeros (suc k) (m * 2) ≡ suc (trailingZeros k m)
 unfolding trailingZeros
@@ -137,21 +145,6 @@ zeros-are (more {b} {bs} h r) some = go (λ q. zeros-are r q) (ltb b 128) refl
         let m : ends bs * 2 ^ 8 + (1 - b / 128) * 128 ≡ ends bs * 2 ^ 8 = omega arith in
         let n : 8 * suc (length bs) ≡ 8 + 8 * length bs = omega arith in
         rw (m, n, zeros-by 8 (8 * length bs) (ends bs)) (omega (arith, rest behind))
-
--- the byte that ends the number has its top bit clear
-pub kept-room : {bs : List ℕ} → Bytes bs → 0 < ends bs → 2 * kept bs + 2 ≤ 2 ^ (8 * length bs)
-unfolding ends kept
-kept-room none h = absurd (omega arith)
-kept-room (more {b} {bs} h r) some = go (λ q. kept-room r q) (ltb b 128) refl
-  where
-    go : (0 < ends bs → 2 * kept bs + 2 ≤ 2 ^ (8 * length bs)) → (t : Bool) → ltb b 128 ≡ t →
-        2 * (if t then b else (kept bs * 2 ^ 8 + b)) + 2 ≤ 2 ^ (8 * suc (length bs))
-    go rest true e =
-        let l : b < 128 = ltb-true _ _ e in
-        rw (ones-more (length bs)) (omega (arith, pow-pos (8 * length bs)))
-    go rest false e =
-        let l : 128 ≤ b = ltb-false _ _ e in
-        rw (ones-more (length bs)) (omega (arith, rest (omega arith)))
 
 pub taken-le : {bs : List ℕ} → Bytes bs → taken bs ≤ length bs
 unfolding taken

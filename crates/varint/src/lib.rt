@@ -119,7 +119,7 @@ fn short(s: &[u8], at: usize, left: usize) -> Number
     Number { value: 0, taken: 0 }
 }
 
-// Most numbers are of one byte or two.
+// Most numbers are of one byte.
 fn long(s: &[u8], at: usize, left: usize) -> Number
     requires { ⌜ left ≡ length (now s) - at ⌝ }
     requires { ⌜ 10 ≤ left ⌝ }
@@ -133,34 +133,29 @@ fn long(s: &[u8], at: usize, left: usize) -> Number
             taken: 1,
         };
     }
-    let second = s[at + 1];
-    let value = joined(wide(first & 0x7f), second, 1);
-    if second < 128 {
-        return Number { value, taken: 2 };
-    }
-    behind_two(s, at, left, value)
+    behind_one(s, at, left, wide(first & 0x7f))
 }
 
-// The other eight bytes as one word: no step waits for a byte's end mark.
-fn behind_two(s: &[u8], at: usize, left: usize, first: u64) -> Number
+// The next eight bytes are read as one word, and the tenth counts where none of them ends the number: no step waits for a
+// byte's end mark.
+fn behind_one(s: &[u8], at: usize, left: usize, first: u64) -> Number
     requires { ⌜ left ≡ length (now s) - at ⌝ }
     requires { ⌜ 10 ≤ left ⌝ }
-    requires { ⌜ Holding (now s) (place at) first 2 ⌝ }
+    requires { ⌜ Holding (now s) (place at) first 1 ⌝ }
     ensures { λ r. ⌜ r .taken ≤ left ⌝ }
     ensures { λ r. ⌜ definition.number 64 (now (s .entry)) (place at) ≡ answered left (place at) (r .value) (r .taken) ⌝ }
 {
-    let x = eight(s, at + 2);
+    let x = eight(s, at + 1);
     let ends = !x & 0x8080_8080_8080_8080;
-    if ends == 0 {
+    let zeros = u64::trailing_zeros(ends);
+    let tenth = wide(s[at + 9]) * (zeros / 64) as u64;
+    if 1 < tenth {
         return Number { value: 0, taken: 0 };
     }
-    let kept = x & ends - 1;
-    if 1 < kept >> 56 {
-        return Number { value: 0, taken: 0 };
-    }
+    let kept = x & std::num::wrapping_sub_u64(ends, 1);
     Number {
-        value: first | squeezed(kept) << 14,
-        taken: (u64::trailing_zeros(ends) / 8) as usize + 3,
+        value: first | squeezed(kept) << 7 | tenth << 63,
+        taken: (zeros / 8) as usize + 2,
     }
 }
 
