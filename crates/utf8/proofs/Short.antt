@@ -68,3 +68,6 @@ module _ (s : List ℕ) where
 
 pub whole-run : (start size : ℕ) → start + size - start ≡ size
 whole-run start size = omega arith
+
+pub run-text : (s : List ℕ) (start size : ℕ) → isUtf8 (take (start + size - start) (drop start s)) ≡ isUtf8 (take size (drop start s))
+run-text s start size = rw (whole-run start size)

@@ -281,5 +281,9 @@ pub fn is_utf8_at(s: &[u8], start: usize, size: usize) -> bool
         return true;
     }
     let end = start + size;
+    // Short text that is not all ASCII is not looked through once more for where its ASCII ends.
+    if size < 32 {
+        return is_utf8_from(&s[start..end], 0);
+    }
     is_utf8(&s[start..end])
 }

@@ -1,10 +1,8 @@
 -- `utf8::is_utf8_at` meets its contract: the part that is lent is the run, cut where the bytes end. Assumes nothing.
 use mathlib.Core.Path.{_∙_, sym, ap}
-use Prim.Native.Nat.{ℕ}
 use native.Mathlib.Omega.{arith}
-use lib.ListN.{take, drop}
 use Rattle.utf8.specs.Check.{isUtf8}
-use Rattle.utf8.proofs.Short.{none-there, cut-there, whole-run}
+use Rattle.utf8.proofs.Short.{none-there, cut-there, run-text}
 use borrow.Author.Needs.{needs}
 use Rattle.utf8.proofs.is_utf8_at.Statement.{statement}
 use Rattle.utf8.proofs.is_utf8_at.Tie as tie
@@ -42,6 +40,22 @@ returns-3 c =
 add-end : tie.Need-add-end
 add-end c = search needs
 
+sub-is-utf8-from : tie.Need-sub-is-utf8-from
+sub-is-utf8-from c = search needs
+
+part-is-utf8-from-start : tie.Need-part-is-utf8-from-start
+part-is-utf8-from-start c = search needs
+
+part-is-utf8-from-end : tie.Need-part-is-utf8-from-end
+part-is-utf8-from-end c = search needs
+
+is-utf8-from-requires : tie.Need-is-utf8-from-requires
+is-utf8-from-requires c κs = search needs
+
+returns-4 : tie.Need-returns-4
+returns-4 c =
+    c .is-utf8-from .ensures ∙ run-text (c .before .before .before .before .before .before .before .before .args .s .now) (c .before .before .before .before .before .before .before .before .args .start) (c .before .before .before .before .before .before .before .before .args .size)
+
 sub-is-utf8-2 : tie.Need-sub-is-utf8-2
 sub-is-utf8-2 c = search needs
 
@@ -54,9 +68,9 @@ part-is-utf8-end-2 c = search needs
 is-utf8-requires-2 : tie.Need-is-utf8-requires-2
 is-utf8-requires-2 c κs = search needs
 
-returns-4 : tie.Need-returns-4
-returns-4 c =
-    c .is-utf82 .ensures ∙ ap (λ (n : ℕ). isUtf8 (take n (drop (c .before .before .before .before .before .before .before .args .start) (c .before .before .before .before .before .before .before .args .s .now)))) (whole-run (c .before .before .before .before .before .before .before .args .start) (c .before .before .before .before .before .before .before .args .size))
+returns-5 : tie.Need-returns-5
+returns-5 c =
+    c .is-utf82 .ensures ∙ run-text (c .before .before .before .before .before .before .before .before .args .s .now) (c .before .before .before .before .before .before .before .before .args .start) (c .before .before .before .before .before .before .before .before .args .size)
 
 pub is-utf8-at-spec : {M : Type 1} → statement M
 is-utf8-at-spec =
@@ -72,8 +86,13 @@ is-utf8-at-spec =
     is-short-ascii-requires
     returns-3
     add-end
+    sub-is-utf8-from
+    part-is-utf8-from-start
+    part-is-utf8-from-end
+    is-utf8-from-requires
+    returns-4
     sub-is-utf8-2
     part-is-utf8-start-2
     part-is-utf8-end-2
     is-utf8-requires-2
-    returns-4)
+    returns-5)
