@@ -12,7 +12,7 @@ use Rattle.grammar.specs.Outcome.{start, Outcome, got, refused}
 use Rattle.grammar.specs.Combinators.{Text}
 use Rattle.tables.specs.declared.Listed.{Listed}
 use Rattle.tables.specs.declared.Nested.{Nested}
-use Rattle.tables.specs.Table.{With, filled, listedIs, nestedIs, Left, LeftBoth}
+use Rattle.tables.specs.Table.{With, listedIs, nestedIs, Left, LeftBoth}
 use Rattle.fields.specs.declared.ReadText.{ReadText}
 use Rattle.fields.specs.declared.ReadChunk.{ReadChunk}
 use Rattle.fields.specs.Answers.{textIs, chunkIs}
@@ -36,14 +36,16 @@ use Rattle.format.specs.File as file
 use Rattle.format.specs.Rows.{tablesOf, tokenRow, assignRow, chainRow, stepRow, siteRow, inputRow, functionRow, parameterRow}
 use Rattle.format.specs.declared.answer.Answer.{Answer}
 use Rattle.format.specs.declared.answer.Artifact.{Artifact}
+use Rattle.format.specs.declared.answer.Used.{Used}
 use Rattle.reading.specs.declared.steps.Place.{Place}
 use Rattle.reading.specs.Answer.{placesOf, outside, answerOf, filledAll, tablesAfter, Answered}
-use Rattle.reading.specs.Places.{placeOf, valueOr, topsOf, noHeader, noNames, noCounts, noText, noChunk, noUsed, noCases, usedOf, artifactOf}
+use Rattle.reading.specs.Places.{placeOf, valueOr, topsOf, noHeader, noNames, noCounts, noText, noChunk, noUsed, noCases, usedOf, artifactOf, wordsOf, frontAll}
 use Rattle.reading.specs.Steps.{Step, headerFirst, endPlace}
 use Rattle.reading.proofs.Stepping.{at-refused, same-place, same-refusal}
 use Rattle.reading.proofs.Joining.{Told, Stepped}
 use Rattle.reading.proofs.Telling.{told-value, ListFact, told-listed, BothFact, told-nested, CasesFact, told-cases, NamesFact, told-names, ConstantsFact, told-constants, stepped-by}
 use Rattle.reading.proofs.Whole.{Steps, Facts, stepped, stays}
+use Rattle.reading.proofs.Behind.{both, words-used, storedAll, all-filled}
 use Rattle.reading.proofs.Final.{Final, accepted, refusal, within-limit, too-long}
 
 -- the span does not depend on the bytes
@@ -58,9 +60,6 @@ blob-same s (ReadNames.Refused r) = refl
 used-same : (s : List ℕ) (a : ReadNames) → valueOr noNames (namesIs [] a) .used ≡ valueOr noNames (namesIs s a) .used
 used-same s (ReadNames.Got used blob next) = refl
 used-same s (ReadNames.Refused r) = refl
-
-both : {x y : List ℕ} {xs ys : List (List ℕ)} → x ≡ y → xs ≡ ys → x ∷ xs ≡ y ∷ ys
-both e es = rw (e, es)
 
 -- a table that was cleared after a step that kept its length
 pub record Cleared (entry between exit : List ℕ) : Type 0 where
@@ -78,22 +77,19 @@ module _ (mask : ℕ) (s : List ℕ)
   abbrev entry : List (List ℕ)
   entry = t1 ∷ t2 ∷ t3 ∷ t4 ∷ t5 ∷ t6 ∷ t7 ∷ t8 ∷ t9 ∷ t10 ∷ t11 ∷ t12 ∷ t13 ∷ []
 
-  abbrev zeros : List ℕ → List ℕ
-  zeros table = replicate (length table) 0
-
   -- what the calls promise, in their order
   pub record Ran : Type 0 where
     pub r1 : headerFirst s ≡ headerIs h
     pub r2 : Step (placeOf (headerIs h)) (λ e. source ≡ ReadText.Refused e) (λ c. file.string s c ≡ textIs s source)
-    pub r3 : Step (placeOf (textIs s source)) (λ e. ns ≡ ReadNames.Refused e) (λ c. LeftNames (file.names (length t1) s c) s (zeros t1) x1 ns)
-    pub r4 : Step (placeOf (namesIs s ns)) (λ e. cs ≡ ReadConstants.Refused e) (λ c. Read (file.constants (length t2 / 8) s c) (zeros t2) x2 cs)
-    pub r5 : Step (placeOf (readIs cs)) (λ e. ts ≡ Listed.Refused e) (λ c. Left (file.tokens (length t3 / 2) s c) tokenRow 2 0 (zeros t3) x3 ts)
-    pub r6 : Step (placeOf (listedIs ts)) (λ e. os ≡ Listed.Refused e) (λ c. Left (file.assigns (length t4 / 6) s c) assignRow 6 0 (zeros t4) x4 os)
-    pub r7 : Step (placeOf (listedIs os)) (λ e. ls ≡ Nested.Refused e) (λ c. LeftBoth (file.chains (length t5 / 9) (length t6 / 11) mask s c) chainRow stepRow (zeros t5) x5 (zeros t6) x6 ls)
-    pub r8 : Step (placeOf (nestedIs ls)) (λ e. ws ≡ Switched.Refused e) (λ c. LeftCases (file.switches (length t7 / 3) (length t8 / 2) (length t9 / 4) (topsOf cs) s c) (zeros t7) x7 (zeros t8) x8 (zeros t9) x9 ws)
-    pub r9 : Step (placeOf (switchedIs ws)) (λ e. us ≡ Nested.Refused e) (λ c. LeftBoth (file.customs (length t10 / 3) (length t11 / 5) s c) siteRow inputRow (zeros t10) x10 (zeros t11) x11 us)
+    pub r3 : Step (placeOf (textIs s source)) (λ e. ns ≡ ReadNames.Refused e) (λ c. LeftNames (file.names (length t1) s c) s t1 x1 ns)
+    pub r4 : Step (placeOf (namesIs s ns)) (λ e. cs ≡ ReadConstants.Refused e) (λ c. Read (file.constants (length t2 / 8) s c) t2 x2 cs)
+    pub r5 : Step (placeOf (readIs cs)) (λ e. ts ≡ Listed.Refused e) (λ c. Left (file.tokens (length t3 / 2) s c) tokenRow 2 0 t3 x3 ts)
+    pub r6 : Step (placeOf (listedIs ts)) (λ e. os ≡ Listed.Refused e) (λ c. Left (file.assigns (length t4 / 6) s c) assignRow 6 0 t4 x4 os)
+    pub r7 : Step (placeOf (listedIs os)) (λ e. ls ≡ Nested.Refused e) (λ c. LeftBoth (file.chains (length t5 / 9) (length t6 / 11) mask s c) chainRow stepRow t5 x5 t6 x6 ls)
+    pub r8 : Step (placeOf (nestedIs ls)) (λ e. ws ≡ Switched.Refused e) (λ c. LeftCases (file.switches (length t7 / 3) (length t8 / 2) (length t9 / 4) (topsOf cs) s c) t7 x7 t8 x8 t9 x9 ws)
+    pub r9 : Step (placeOf (switchedIs ws)) (λ e. us ≡ Nested.Refused e) (λ c. LeftBoth (file.customs (length t10 / 3) (length t11 / 5) s c) siteRow inputRow t10 x10 t11 x11 us)
     pub r10 : Step (placeOf (nestedIs us)) (λ e. main ≡ ReadChunk.Refused e) (λ c. file.chunk s c ≡ chunkIs main)
-    pub r11 : Step (placeOf (chunkIs main)) (λ e. fs ≡ Nested.Refused e) (λ c. LeftBoth (file.functions (length t12 / 7) (length t13) s c) functionRow parameterRow (zeros t12) x12 (zeros t13) x13 fs)
+    pub r11 : Step (placeOf (chunkIs main)) (λ e. fs ≡ Nested.Refused e) (λ c. LeftBoth (file.functions (length t12 / 7) (length t13) s c) functionRow parameterRow t12 x12 t13 x13 fs)
     pub r12 : Step (placeOf (nestedIs fs)) (λ e. code ≡ ReadText.Refused e) (λ c. file.bytes s c ≡ textIs s code)
     pub r13 : Step (placeOf (textIs s code)) (λ e. ps ≡ ReadText.Refused e) (λ c. file.positions s c ≡ textIs s ps)
     pub r14 : Step (placeOf (textIs s ps)) (λ e. last ≡ Place.Refused e) (λ c. last ≡ endPlace s c)
@@ -106,31 +102,31 @@ module _ (mask : ℕ) (s : List ℕ)
   F2 v = valueOr noText (textIs s source) ≡ v
 
   abbrev F3 : A.Names → Type 0
-  F3 = NamesFact s (zeros t1) x1 ns
+  F3 = NamesFact s t1 x1 ns
 
   abbrev F4 : List (A.Constant Text A.levels) → Type 0
-  F4 = ConstantsFact (zeros t2) x2 cs
+  F4 = ConstantsFact t2 x2 cs
 
   abbrev F5 : List Text → Type 0
-  F5 = ListFact tokenRow (zeros t3) x3 ts
+  F5 = ListFact tokenRow t3 x3 ts
 
   abbrev F6 : List (A.Assign Text) → Type 0
-  F6 = ListFact assignRow (zeros t4) x4 os
+  F6 = ListFact assignRow t4 x4 os
 
   abbrev F7 : List (With Chain ChainStep) → Type 0
-  F7 = BothFact chainRow stepRow (zeros t5) x5 (zeros t6) x6 ls
+  F7 = BothFact chainRow stepRow t5 x5 t6 x6 ls
 
   abbrev F8 : List A.Cased → Type 0
-  F8 = CasesFact (zeros t7) x7 (zeros t8) x8 (zeros t9) x9 ws
+  F8 = CasesFact t7 x7 t8 x8 t9 x9 ws
 
   abbrev F9 : List (With Site Input) → Type 0
-  F9 = BothFact siteRow inputRow (zeros t10) x10 (zeros t11) x11 us
+  F9 = BothFact siteRow inputRow t10 x10 t11 x11 us
 
   abbrev F10 : Chunk → Type 0
   F10 v = valueOr noChunk (chunkIs main) ≡ v
 
   abbrev F11 : List (With Function NameIndex) → Type 0
-  F11 = BothFact functionRow parameterRow (zeros t12) x12 (zeros t13) x13 fs
+  F11 = BothFact functionRow parameterRow t12 x12 t13 x13 fs
 
   abbrev F12 : Text → Type 0
   F12 v = valueOr noText (textIs s code) ≡ v
@@ -148,16 +144,16 @@ module _ (mask : ℕ) (s : List ℕ)
       stepped-by section s step (λ r e. ap (λ a. placeOf (textIs s a)) e) (λ c e. told-value noText (section s c) (textIs s answer) e)
 
   listed-steps : {X : Type 0} (section : List ℕ → Cursor → Outcome (List X)) (row : X → List ℕ) (width : ℕ) (before : Place) (t x : List ℕ) (answer : Listed) →
-      Step before (λ e. answer ≡ Listed.Refused e) (λ c. Left (section s c) row width 0 (zeros t) x answer) →
-      Stepped section (ListFact row (zeros t) x answer) s before (placeOf (listedIs answer))
+      Step before (λ e. answer ≡ Listed.Refused e) (λ c. Left (section s c) row width 0 t x answer) →
+      Stepped section (ListFact row t x answer) s before (placeOf (listedIs answer))
   listed-steps section row width before t x answer step =
-      stepped-by section s step (λ r e. ap (λ a. placeOf (listedIs a)) e) (λ c left. told-listed (section s c) row width (zeros t) x answer left)
+      stepped-by section s step (λ r e. ap (λ a. placeOf (listedIs a)) e) (λ c left. told-listed (section s c) row width t x answer left)
 
   nested-steps : {X Y : Type 0} (section : List ℕ → Cursor → Outcome (List (With X Y))) (row : X → List ℕ) (itemRow : Y → List ℕ) (before : Place) (t x u y : List ℕ) (answer : Nested) →
-      Step before (λ e. answer ≡ Nested.Refused e) (λ c. LeftBoth (section s c) row itemRow (zeros t) x (zeros u) y answer) →
-      Stepped section (BothFact row itemRow (zeros t) x (zeros u) y answer) s before (placeOf (nestedIs answer))
+      Step before (λ e. answer ≡ Nested.Refused e) (λ c. LeftBoth (section s c) row itemRow t x u y answer) →
+      Stepped section (BothFact row itemRow t x u y answer) s before (placeOf (nestedIs answer))
   nested-steps section row itemRow before t x u y answer step =
-      stepped-by section s step (λ r e. ap (λ a. placeOf (nestedIs a)) e) (λ c left. told-nested (section s c) row itemRow (zeros t) x (zeros u) y answer left)
+      stepped-by section s step (λ r e. ap (λ a. placeOf (nestedIs a)) e) (λ c left. told-nested (section s c) row itemRow t x u y answer left)
 
   abbrev switches : ℕ → List ℕ → Cursor → Outcome (List A.Cased)
   switches = file.switches (length t7 / 3) (length t8 / 2) (length t9 / 4)
@@ -166,7 +162,7 @@ module _ (mask : ℕ) (s : List ℕ)
   switches-step r vs f =
       let tops : topsOf cs ≡ length vs = ap (λ n. n .tops) (f .0) in
       stepped-by (switches (length vs)) s (r .r8) (λ r e. ap (λ a. placeOf (switchedIs a)) e)
-      (λ c left. told-cases (switches (length vs) s c) (zeros t7) x7 (zeros t8) x8 (zeros t9) x9 ws (rw tops at left))
+      (λ c left. told-cases (switches (length vs) s c) t7 x7 t8 x8 t9 x9 ws (rw tops at left))
 
   steps : Ran → Steps (placesOf entry) mask s F1 F2 F3 F4 F5 F6 F7 F8 F9 F10 F11 F12 F13
   steps r =
@@ -185,8 +181,8 @@ module _ (mask : ℕ) (s : List ℕ)
         b12 = placeOf (textIs s code);
         b13 = placeOf (textIs s ps);
         s2 = text-steps file.string _ source (r .r2);
-        s3 = stepped-by (file.names (length t1)) s (r .r3) (λ r e. ap (λ a. placeOf (namesIs s a)) e) (λ c left. told-names (file.names (length t1) s c) s (zeros t1) x1 ns left);
-        s4 = stepped-by (file.constants (length t2 / 8)) s (r .r4) (λ r e. ap (λ a. placeOf (readIs a)) e) (λ c left. told-constants (file.constants (length t2 / 8) s c) (zeros t2) x2 cs left);
+        s3 = stepped-by (file.names (length t1)) s (r .r3) (λ r e. ap (λ a. placeOf (namesIs s a)) e) (λ c left. told-names (file.names (length t1) s c) s t1 x1 ns left);
+        s4 = stepped-by (file.constants (length t2 / 8)) s (r .r4) (λ r e. ap (λ a. placeOf (readIs a)) e) (λ c left. told-constants (file.constants (length t2 / 8) s c) t2 x2 cs left);
         s5 = listed-steps (file.tokens (length t3 / 2)) tokenRow 2 _ t3 x3 ts (r .r5);
         s6 = listed-steps (file.assigns (length t4 / 6)) assignRow 6 _ t4 x4 os (r .r6);
         s7 = nested-steps (file.chains (length t5 / 9) (length t6 / 11) mask) chainRow stepRow _ t5 x5 t6 x6 ls (r .r7);
@@ -221,27 +217,40 @@ module _ (mask : ℕ) (s : List ℕ)
           (stepped (placesOf entry) mask s F1 F2 F3 F4 F5 F6 F7 F8 F9 F10 F11 F12 F13 (steps r) refl (first (r .r1) e))
 
   -- what stands outside the tables
+  abbrev used : Used
+  used = usedOf (namesIs [] ns) (readIs cs) (listedIs ts) (listedIs os) (nestedIs ls) (switchedIs ws) (nestedIs us) (nestedIs fs)
+
   abbrev gathered : Artifact
   gathered =
-      artifactOf (headerIs h) (textIs [] source) (namesIs [] ns) (readIs cs) (chunkIs main) (textIs [] code) (textIs [] ps)
-      (usedOf (namesIs [] ns) (readIs cs) (listedIs ts) (listedIs os) (nestedIs ls) (switchedIs ws) (nestedIs us) (nestedIs fs))
+      artifactOf (headerIs h) (textIs [] source) (namesIs [] ns) (readIs cs) (chunkIs main) (textIs [] code) (textIs [] ps) used
 
   gathered-outside : (a : A.Artifact) → Known a → gathered ≡ outside a
   gathered-outside a f =
       rw (span-same s source, span-same s code, span-same s ps, blob-same s ns, used-same s ns, f .f1, f .f2, f .f3 .0, f .f4 .0, f .f5 .0, f .f6 .0, f .f7 .0 .0, f .f8 .0 .0 .0, f .f9 .0 .0, f .f10, f .f11 .0 .0, f .f12, f .f13)
 
-  tables-filled : (a : A.Artifact) → Known a → x1 ∷ x2 ∷ x3 ∷ x4 ∷ x5 ∷ x6 ∷ x7 ∷ x8 ∷ x9 ∷ x10 ∷ x11 ∷ x12 ∷ x13 ∷ [] ≡ filledAll entry (tablesOf a)
-  tables-filled a f =
+  tables-stored : (a : A.Artifact) → Known a → x1 ∷ x2 ∷ x3 ∷ x4 ∷ x5 ∷ x6 ∷ x7 ∷ x8 ∷ x9 ∷ x10 ∷ x11 ∷ x12 ∷ x13 ∷ [] ≡ storedAll entry (tablesOf a)
+  tables-stored a f =
       both (f .f3 .1) (both (f .f4 .1) (both (f .f5 .1) (both (f .f6 .1) (both (f .f7 .0 .1) (both (f .f7 .1)
       (both (f .f8 .0 .0 .1) (both (f .f8 .0 .1) (both (f .f8 .1) (both (f .f9 .0 .1) (both (f .f9 .1) (both (f .f11 .0 .1) (both (f .f11 .1) refl))))))))))))
 
-  -- at the end of the file
-  pub at-last : Ran → {c : Cursor} → last ≡ Place.At c → (answer : Answer) → answer ≡ Answer.Accepted gathered →
-      Answered mask s entry (x1 ∷ x2 ∷ x3 ∷ x4 ∷ x5 ∷ x6 ∷ x7 ∷ x8 ∷ x9 ∷ x10 ∷ x11 ∷ x12 ∷ x13 ∷ []) answer
-  at-last r e answer is = go (final r)
+  tables-filled : (a : A.Artifact) → Known a → frontAll (wordsOf used) (x1 ∷ x2 ∷ x3 ∷ x4 ∷ x5 ∷ x6 ∷ x7 ∷ x8 ∷ x9 ∷ x10 ∷ x11 ∷ x12 ∷ x13 ∷ []) ≡ filledAll entry (tablesOf a)
+  tables-filled a f =
+      ap (λ o. frontAll (wordsOf (o .used)) (x1 ∷ x2 ∷ x3 ∷ x4 ∷ x5 ∷ x6 ∷ x7 ∷ x8 ∷ x9 ∷ x10 ∷ x11 ∷ x12 ∷ x13 ∷ [])) (gathered-outside a f)
+      ∙ ap (frontAll (wordsOf (outside a .used))) (tables-stored a f)
+      ∙ ap (λ words. frontAll words (storedAll entry (tablesOf a))) (words-used a)
+      ∙ all-filled entry (tablesOf a)
+
+  -- at the end of the file, once what stands behind the rows is cleared
+  pub at-last : Ran → {c : Cursor} → last ≡ Place.At c → {counts : Used} → counts ≡ used → (exit : List (List ℕ)) → exit ≡ frontAll (wordsOf counts) (x1 ∷ x2 ∷ x3 ∷ x4 ∷ x5 ∷ x6 ∷ x7 ∷ x8 ∷ x9 ∷ x10 ∷ x11 ∷ x12 ∷ x13 ∷ []) →
+      (answer : Answer) → answer ≡ Answer.Accepted gathered → Answered mask s entry exit answer
+  at-last r e same exit left answer is = go (final r)
     where
-      go : Final Known (file.read (placesOf entry) mask s) last → Answered mask s entry (x1 ∷ x2 ∷ x3 ∷ x4 ∷ x5 ∷ x6 ∷ x7 ∷ x8 ∷ x9 ∷ x10 ∷ x11 ∷ x12 ∷ x13 ∷ []) answer
-      go (accepted a c o p f) = record { result = is ∙ rw (o, gathered-outside a f); tables = rw o (tables-filled a f) }
+      go : Final Known (file.read (placesOf entry) mask s) last → Answered mask s entry exit answer
+      go (accepted a c o p f) =
+          record {
+            result = is ∙ rw (o, gathered-outside a f);
+            tables = left ∙ ap (λ u. frontAll (wordsOf u) (x1 ∷ x2 ∷ x3 ∷ x4 ∷ x5 ∷ x6 ∷ x7 ∷ x8 ∷ x9 ∷ x10 ∷ x11 ∷ x12 ∷ x13 ∷ [])) same ∙ rw o (tables-filled a f);
+          }
       go (refusal q o p) = absurd (at-refused e p)
 
   -- at a refusal, once the tables are cleared

@@ -1,9 +1,9 @@
 -- Where the reader stands behind the outcome of a section, and what the sections gave.
-use Prim.Native.Nat.{ℕ}
-use mathlib.Core.List.{[]}
+use Prim.Native.Nat.{ℕ, _*_}
+use mathlib.Core.List.{List, [], _∷_}
 use Rattle.grammar.specs.Outcome.{Outcome, got, refused}
 use Rattle.grammar.specs.Combinators.{Text}
-use Rattle.tables.specs.Table.{Used}
+use Rattle.tables.specs.Table.{Used, front}
 use Rattle.format.specs.declared.records.Chunk.{Chunk}
 use Rattle.format.specs.Artifact as A
 use Rattle.constants.specs.declared.ReadConstants.{ReadConstants}
@@ -82,3 +82,27 @@ artifactOf header source names constants main code positions used =
       positions = valueOr noText positions .span;
       used = used;
     }
+
+-- the words of the places used, by the words of a row
+abbrev pub wordsOf : AllUsed → List ℕ
+wordsOf used =
+    used .names * 1
+    ∷ used .constants * 8
+    ∷ used .tokens * 2
+    ∷ used .assigns * 6
+    ∷ used .chains * 9
+    ∷ used .steps * 11
+    ∷ used .switches * 3
+    ∷ used .cases * 2
+    ∷ used .ranges * 4
+    ∷ used .customs * 3
+    ∷ used .inputs * 5
+    ∷ used .functions * 7
+    ∷ used .parameters * 1
+    ∷ []
+
+-- of each table the first words, and zeros behind them
+abbrev pub frontAll : List ℕ → List (List ℕ) → List (List ℕ)
+frontAll [] tables = []
+frontAll (n ∷ ns) [] = []
+frontAll (n ∷ ns) (t ∷ tables) = front n t ∷ frontAll ns tables

@@ -1,5 +1,5 @@
-// What stands outside the tables, collected from the answers of the sections.
-ghost use mathlib.Core.List.{[]};
+// What stands outside the tables, collected from the answers of the sections; and what stands behind their rows, cleared.
+ghost use mathlib.Core.List.{[], _∷_};
 ghost use mathlib.Core.Path.{_≡_};
 ghost use Rattle.fields.specs.Answers.{textIs, chunkIs};
 ghost use Rattle.tables.specs.Table.{listedIs, nestedIs};
@@ -7,7 +7,7 @@ ghost use Rattle.constants.specs.Kept.{readIs};
 ghost use Rattle.switches.specs.Answers.{switchedIs};
 ghost use Rattle.sections.specs.Answers.{headerIs};
 ghost use Rattle.sections.specs.Names.{namesIs};
-ghost use Rattle.reading.specs.Places.{usedOf, artifactOf};
+ghost use Rattle.reading.specs.Places.{usedOf, artifactOf, wordsOf, frontAll};
 use crate::parts;
 use constants::ReadConstants;
 use fields::ReadChunk;
@@ -71,4 +71,38 @@ pub fn artifact(
         positions: parts::span(positions),
         used,
     }
+}
+
+// Of each table the rows stay, and every word behind them is 0.
+pub fn clear_behind(
+    used: Used,
+    names: &mut [u64],
+    constants: &mut [u64],
+    tokens: &mut [u64],
+    assigns: &mut [u64],
+    chains: &mut [u64],
+    steps: &mut [u64],
+    switches: &mut [u64],
+    cases: &mut [u64],
+    ranges: &mut [u64],
+    customs: &mut [u64],
+    inputs: &mut [u64],
+    functions: &mut [u64],
+    parameters: &mut [u64],
+)
+    ensures { λ _. ⌜ now (names .exit) ∷ now (constants .exit) ∷ now (tokens .exit) ∷ now (assigns .exit) ∷ now (chains .exit) ∷ now (steps .exit) ∷ now (switches .exit) ∷ now (cases .exit) ∷ now (ranges .exit) ∷ now (customs .exit) ∷ now (inputs .exit) ∷ now (functions .exit) ∷ now (parameters .exit) ∷ [] ≡ frontAll (wordsOf used) (now (names .entry) ∷ now (constants .entry) ∷ now (tokens .entry) ∷ now (assigns .entry) ∷ now (chains .entry) ∷ now (steps .entry) ∷ now (switches .entry) ∷ now (cases .entry) ∷ now (ranges .entry) ∷ now (customs .entry) ∷ now (inputs .entry) ∷ now (functions .entry) ∷ now (parameters .entry) ∷ []) ⌝ }
+{
+    tables::clear_behind(names, used.names, 1);
+    tables::clear_behind(constants, used.constants, 8);
+    tables::clear_behind(tokens, used.tokens, 2);
+    tables::clear_behind(assigns, used.assigns, 6);
+    tables::clear_behind(chains, used.chains, 9);
+    tables::clear_behind(steps, used.steps, 11);
+    tables::clear_behind(switches, used.switches, 3);
+    tables::clear_behind(cases, used.cases, 2);
+    tables::clear_behind(ranges, used.ranges, 4);
+    tables::clear_behind(customs, used.customs, 3);
+    tables::clear_behind(inputs, used.inputs, 5);
+    tables::clear_behind(functions, used.functions, 7);
+    tables::clear_behind(parameters, used.parameters, 1);
 }

@@ -6,7 +6,7 @@ use crate::steps as section;
 use crate::steps::Place;
 use format::answer::Answer;
 
-// Thirteen tables of whole rows are lent, each cleared before it is filled. A refusal leaves every word of them zero.
+// Thirteen tables of whole rows are lent, whatever they hold. An acceptance leaves zeros behind the rows, a refusal zeros alone.
 pub fn read(
     bytes: &[u8],
     mask: u8,
@@ -42,6 +42,22 @@ pub fn read(
     match section::end(bytes, ps) {
         Place::At(_) => {
             let used = collect::used(ns, cs, ts, os, ls, ws, us, fs);
+            collect::clear_behind(
+                used,
+                names,
+                constants,
+                tokens,
+                assigns,
+                chains,
+                steps,
+                switches,
+                cases,
+                ranges,
+                customs,
+                inputs,
+                functions,
+                parameters,
+            );
             Answer::Accepted(collect::artifact(h, source, ns, cs, main, code, ps, used))
         }
         Place::Refused(r) => {

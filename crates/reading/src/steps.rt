@@ -1,8 +1,8 @@
-// One section after another: each step takes the answer of the one before it, hands a refusal on, and otherwise clears its
-// tables and reads.
+// One section after another: each step takes the answer of the one before it, hands a refusal on, and otherwise reads into its
+// tables, whatever they hold.
 ghost use mathlib.Core.Path.{_≡_};
 ghost use Prim.Native.Nat.{_-_, _/_};
-ghost use lib.ListN.{length, replicate};
+ghost use lib.ListN.{length};
 ghost use Rattle.tables.specs.Table.{Left, LeftBoth, listedIs, nestedIs};
 ghost use Rattle.format.specs.File as definition;
 ghost use Rattle.format.specs.Rows.{tokenRow, assignRow, chainRow, stepRow, siteRow, inputRow, functionRow, parameterRow};
@@ -66,70 +66,54 @@ pub fn source(s: &[u8], before: ReadHeader) -> ReadText
 }
 
 pub fn names(s: &[u8], before: ReadText, t: &mut [u64]) -> ReadNames
-    ensures { λ r. ⌜ Step (placeOf (textIs (now (s .entry)) before)) (λ e. r ≡ NamesAnswer.Refused e) (λ c. LeftNames (definition.names (length (now (t .entry))) (now (s .entry)) c) (now (s .entry)) (replicate (length (now (t .entry))) 0) (now (t .exit)) r) ⌝ }
+    ensures { λ r. ⌜ Step (placeOf (textIs (now (s .entry)) before)) (λ e. r ≡ NamesAnswer.Refused e) (λ c. LeftNames (definition.names (length (now (t .entry))) (now (s .entry)) c) (now (s .entry)) (now (t .entry)) (now (t .exit)) r) ⌝ }
 {
     match before {
-        ReadText::Got { span: _, next } => {
-            tables::clear(t);
-            sections::names::names(s, next, t)
-        }
+        ReadText::Got { span: _, next } => sections::names::names(s, next, t),
         ReadText::Refused(r) => ReadNames::Refused(r),
     }
 }
 
 pub fn constants(s: &[u8], before: ReadNames, t: &mut [u64]) -> ReadConstants
-    ensures { λ r. ⌜ Step (placeOf (namesIs (now (s .entry)) before)) (λ e. r ≡ ConstantsAnswer.Refused e) (λ c. Read (definition.constants (length (now (t .entry)) / 8) (now (s .entry)) c) (replicate (length (now (t .entry))) 0) (now (t .exit)) r) ⌝ }
+    ensures { λ r. ⌜ Step (placeOf (namesIs (now (s .entry)) before)) (λ e. r ≡ ConstantsAnswer.Refused e) (λ c. Read (definition.constants (length (now (t .entry)) / 8) (now (s .entry)) c) (now (t .entry)) (now (t .exit)) r) ⌝ }
 {
     match before {
         ReadNames::Got {
             used: _,
             blob: _,
             next,
-        } => {
-            tables::clear(t);
-            constants::constants(s, next, t)
-        }
+        } => constants::constants(s, next, t),
         ReadNames::Refused(r) => ReadConstants::Refused(r),
     }
 }
 
 pub fn tokens(s: &[u8], before: ReadConstants, t: &mut [u64]) -> Listed
-    ensures { λ r. ⌜ Step (placeOf (readIs before)) (λ e. r ≡ ListAnswer.Refused e) (λ c. Left (definition.tokens (length (now (t .entry)) / 2) (now (s .entry)) c) tokenRow 2 0 (replicate (length (now (t .entry))) 0) (now (t .exit)) r) ⌝ }
+    ensures { λ r. ⌜ Step (placeOf (readIs before)) (λ e. r ≡ ListAnswer.Refused e) (λ c. Left (definition.tokens (length (now (t .entry)) / 2) (now (s .entry)) c) tokenRow 2 0 (now (t .entry)) (now (t .exit)) r) ⌝ }
 {
     match before {
         ReadConstants::Got {
             tops: _,
             used: _,
             next,
-        } => {
-            tables::clear(t);
-            sections::tokens::tokens(s, next, t)
-        }
+        } => sections::tokens::tokens(s, next, t),
         ReadConstants::Refused(r) => Listed::Refused(r),
     }
 }
 
 pub fn assigns(s: &[u8], before: Listed, t: &mut [u64]) -> Listed
-    ensures { λ r. ⌜ Step (placeOf (listedIs before)) (λ e. r ≡ ListAnswer.Refused e) (λ c. Left (definition.assigns (length (now (t .entry)) / 6) (now (s .entry)) c) assignRow 6 0 (replicate (length (now (t .entry))) 0) (now (t .exit)) r) ⌝ }
+    ensures { λ r. ⌜ Step (placeOf (listedIs before)) (λ e. r ≡ ListAnswer.Refused e) (λ c. Left (definition.assigns (length (now (t .entry)) / 6) (now (s .entry)) c) assignRow 6 0 (now (t .entry)) (now (t .exit)) r) ⌝ }
 {
     match before {
-        Listed::Got { used: _, next } => {
-            tables::clear(t);
-            sections::assigns::assigns(s, next, t)
-        }
+        Listed::Got { used: _, next } => sections::assigns::assigns(s, next, t),
         Listed::Refused(r) => Listed::Refused(r),
     }
 }
 
 pub fn chains(s: &[u8], before: Listed, mask: u8, t: &mut [u64], steps: &mut [u64]) -> Nested
-    ensures { λ r. ⌜ Step (placeOf (listedIs before)) (λ e. r ≡ NestedAnswer.Refused e) (λ c. LeftBoth (definition.chains (length (now (t .entry)) / 9) (length (now (steps .entry)) / 11) mask (now (s .entry)) c) chainRow stepRow (replicate (length (now (t .entry))) 0) (now (t .exit)) (replicate (length (now (steps .entry))) 0) (now (steps .exit)) r) ⌝ }
+    ensures { λ r. ⌜ Step (placeOf (listedIs before)) (λ e. r ≡ NestedAnswer.Refused e) (λ c. LeftBoth (definition.chains (length (now (t .entry)) / 9) (length (now (steps .entry)) / 11) mask (now (s .entry)) c) chainRow stepRow (now (t .entry)) (now (t .exit)) (now (steps .entry)) (now (steps .exit)) r) ⌝ }
 {
     match before {
-        Listed::Got { used: _, next } => {
-            tables::clear(t);
-            tables::clear(steps);
-            chains::chains(s, next, mask, t, steps)
-        }
+        Listed::Got { used: _, next } => chains::chains(s, next, mask, t, steps),
         Listed::Refused(r) => Nested::Refused(r),
     }
 }
@@ -143,25 +127,20 @@ pub fn switches(
     cases: &mut [u64],
     ranges: &mut [u64],
 ) -> Switched
-    ensures { λ r. ⌜ Step (placeOf (nestedIs before)) (λ e. r ≡ SwitchesAnswer.Refused e) (λ c. LeftCases (definition.switches (length (now (t .entry)) / 3) (length (now (cases .entry)) / 2) (length (now (ranges .entry)) / 4) (topsOf pool) (now (s .entry)) c) (replicate (length (now (t .entry))) 0) (now (t .exit)) (replicate (length (now (cases .entry))) 0) (now (cases .exit)) (replicate (length (now (ranges .entry))) 0) (now (ranges .exit)) r) ⌝ }
+    ensures { λ r. ⌜ Step (placeOf (nestedIs before)) (λ e. r ≡ SwitchesAnswer.Refused e) (λ c. LeftCases (definition.switches (length (now (t .entry)) / 3) (length (now (cases .entry)) / 2) (length (now (ranges .entry)) / 4) (topsOf pool) (now (s .entry)) c) (now (t .entry)) (now (t .exit)) (now (cases .entry)) (now (cases .exit)) (now (ranges .entry)) (now (ranges .exit)) r) ⌝ }
 {
     match before {
         Nested::Got {
             used: _,
             items: _,
             next,
-        } => {
-            tables::clear(t);
-            tables::clear(cases);
-            tables::clear(ranges);
-            switches::switches(s, next, parts::tops(pool), t, cases, ranges)
-        }
+        } => switches::switches(s, next, parts::tops(pool), t, cases, ranges),
         Nested::Refused(r) => Switched::Refused(r),
     }
 }
 
 pub fn customs(s: &[u8], before: Switched, t: &mut [u64], inputs: &mut [u64]) -> Nested
-    ensures { λ r. ⌜ Step (placeOf (switchedIs before)) (λ e. r ≡ NestedAnswer.Refused e) (λ c. LeftBoth (definition.customs (length (now (t .entry)) / 3) (length (now (inputs .entry)) / 5) (now (s .entry)) c) siteRow inputRow (replicate (length (now (t .entry))) 0) (now (t .exit)) (replicate (length (now (inputs .entry))) 0) (now (inputs .exit)) r) ⌝ }
+    ensures { λ r. ⌜ Step (placeOf (switchedIs before)) (λ e. r ≡ NestedAnswer.Refused e) (λ c. LeftBoth (definition.customs (length (now (t .entry)) / 3) (length (now (inputs .entry)) / 5) (now (s .entry)) c) siteRow inputRow (now (t .entry)) (now (t .exit)) (now (inputs .entry)) (now (inputs .exit)) r) ⌝ }
 {
     match before {
         Switched::Got {
@@ -169,11 +148,7 @@ pub fn customs(s: &[u8], before: Switched, t: &mut [u64], inputs: &mut [u64]) ->
             cases: _,
             ranges: _,
             next,
-        } => {
-            tables::clear(t);
-            tables::clear(inputs);
-            callables::customs::customs(s, next, t, inputs)
-        }
+        } => callables::customs::customs(s, next, t, inputs),
         Switched::Refused(r) => Nested::Refused(r),
     }
 }
@@ -193,14 +168,15 @@ pub fn main(s: &[u8], before: Nested) -> ReadChunk
 }
 
 pub fn functions(s: &[u8], before: ReadChunk, t: &mut [u64], parameters: &mut [u64]) -> Nested
-    ensures { λ r. ⌜ Step (placeOf (chunkIs before)) (λ e. r ≡ NestedAnswer.Refused e) (λ c. LeftBoth (definition.functions (length (now (t .entry)) / 7) (length (now (parameters .entry))) (now (s .entry)) c) functionRow parameterRow (replicate (length (now (t .entry))) 0) (now (t .exit)) (replicate (length (now (parameters .entry))) 0) (now (parameters .exit)) r) ⌝ }
+    ensures { λ r. ⌜ Step (placeOf (chunkIs before)) (λ e. r ≡ NestedAnswer.Refused e) (λ c. LeftBoth (definition.functions (length (now (t .entry)) / 7) (length (now (parameters .entry))) (now (s .entry)) c) functionRow parameterRow (now (t .entry)) (now (t .exit)) (now (parameters .entry)) (now (parameters .exit)) r) ⌝ }
 {
     match before {
-        ReadChunk::Got { chunk: _, next } => {
-            tables::clear(t);
-            tables::clear(parameters);
-            callables::functions::functions(s, next, t, parameters)
-        }
+        ReadChunk::Got { chunk: _, next } => callables::functions::functions(
+            s,
+            next,
+            t,
+            parameters,
+        ),
         ReadChunk::Refused(r) => Nested::Refused(r),
     }
 }

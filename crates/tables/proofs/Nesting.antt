@@ -2,7 +2,7 @@
 use Prim.Native.Nat.{ℕ, zero, suc, _+_, _*_, _-_, _≤_, _<_}
 use mathlib.Core.Path.{_≡_, refl, sym, _∙_, ap, subst}
 use mathlib.Core.List.{List, [], _∷_, _++_, foldl, foldl-append}
-use native.Mathlib.Nat.{add-mul, one-mul}
+use native.Mathlib.Nat.{zero-add, add-mul, one-mul}
 use native.Mathlib.Omega.{arith}
 use lib.ListN.{length, length-append}
 use lib.Seq.{sets, length-sets}
@@ -19,6 +19,21 @@ pub length-rows : {A : Type 0} (row : A → List ℕ) (width : ℕ) → ((x : A)
 length-rows row width wide [] = omega arith
 length-rows row width wide (x ∷ xs) =
     length-append (row x) (rows row xs) ∙ rw (wide x, length-rows row width wide xs) (omega arith)
+
+-- rows of records that take so many places each
+module _ {X : Type 0} (row : X → List ℕ) (takes : X → ℕ) (width : ℕ) (each : (x : X) → length (row x) ≡ takes x * width) where
+  words-behind : (from : ℕ) (xs : List X) → from * width + length (rows row xs) ≡ foldl (λ n x. n + takes x) from xs * width
+  words-behind from [] = omega arith
+  words-behind from (x ∷ xs) =
+      ap (λ (n : ℕ). from * width + n) (length-append (row x) (rows row xs) ∙ rw (each x))
+      ∙ regroup from (takes x) (length (rows row xs))
+      ∙ words-behind (from + takes x) xs
+    where
+      regroup : (a b c : ℕ) → a * width + (b * width + c) ≡ (a + b) * width + c
+      regroup a b c = rw (add-mul a b width) (omega arith)
+
+  pub words-of : (xs : List X) → length (rows row xs) ≡ foldl (λ n x. n + takes x) 0 xs * width
+  words-of xs = let none : 0 * width ≡ 0 = omega arith in rw (none, zero-add (length (rows row xs))) at (words-behind 0 xs)
 
 -- n records are wanted; some are read and stored, and so many are left
 pub record Nesting {A S : Type 0} (next : S → A → S) (table places : ℕ) (p : S → Parser A) (row : A → List ℕ) (width : ℕ) (s : List ℕ) (c : Cursor)

@@ -2,13 +2,13 @@
 use Prim.Native.Nat.{ℕ, zero, suc, _+_, _-_, _≤_, _<_, zero-le}
 use mathlib.Core.Path.{_≡_, refl, sym, _∙_, ap}
 use mathlib.Core.Logic.{_≢_}
-use mathlib.Core.List.{List, [], _∷_, _++_}
+use mathlib.Core.List.{List, [], _∷_, _++_, append-nil}
 use native.Mathlib.Nat.{add-zero, add-suc, suc-add, add-assoc, zero-add}
 use native.Mathlib.Numerals.{add-one}
 use native.Mathlib.Omega.{arith}
 use lib.ListN.{length, getD, set, take, drop, replicate, length-append, length-set, length-replicate}
-use lib.Seq.{sets, sets-eq, length-sets, set-comm, drop-cons}
-use Rattle.tables.specs.Table.{filled}
+use lib.Seq.{sets, sets-eq, length-sets, set-comm, drop-cons, take-all}
+use Rattle.tables.specs.Table.{filled, front}
 
 -- side by side is one run of both
 pub sets-append : (t : List ℕ) (i : ℕ) (ws vs : List ℕ) → sets t i (ws ++ vs) ≡ sets (sets t i ws) (i + length ws) vs
@@ -48,3 +48,36 @@ filled-front size ws h =
     drop-zeros zero size = let e : size - 0 ≡ size = omega arith in rw e
     drop-zeros (suc n) zero = let e : 0 - suc n ≡ 0 = omega arith in rw e
     drop-zeros (suc n) (suc size) = let e : suc size - suc n ≡ size - n = omega arith in rw e (drop-zeros n size)
+
+-- ── words in front, and zeros behind them ──
+
+-- a zero stored behind them is one word more in front
+front-suc : (t : List ℕ) (at : ℕ) → at < length t → front at t ≡ front (suc at) (set t at 0)
+front-suc [] at h = absurd (omega arith)
+front-suc (x ∷ t) zero h = let e : suc (length t) - 1 ≡ length t = omega arith in let f : suc (length t) - 0 ≡ suc (length t) = omega arith in rw (e, f)
+front-suc (x ∷ t) (suc at) h =
+    let e : suc (length t) - suc at ≡ length t - at = omega arith in
+    let f : suc (length (set t at 0)) - suc (suc at) ≡ length (set t at 0) - suc at = omega arith in
+    rw (e, f) (ap (λ (l : List ℕ). x ∷ l) (front-suc t at (omega arith)))
+
+pub front-next : (t : List ℕ) (at : ℕ) → at < length t → front at t ≡ front (at + 1) (set t at 0)
+front-next t at h = rw (add-one at) (front-suc t at h)
+
+pub front-all : (t : List ℕ) (n : ℕ) → length t ≤ n → front n t ≡ t
+front-all t n h = let e : length t - n ≡ 0 = omega arith in rw (e, take-all n t h) (append-nil t)
+
+sets-none : (i : ℕ) (ws : List ℕ) → sets {A = ℕ} [] i ws ≡ []
+sets-none i [] = refl
+sets-none i (w ∷ ws) = sets-none (suc i) ws
+
+sets-cons : (x : ℕ) (t : List ℕ) (i : ℕ) (ws : List ℕ) → sets (x ∷ t) (suc i) ws ≡ x ∷ sets t i ws
+sets-cons x t i [] = refl
+sets-cons x t i (w ∷ ws) = sets-cons x (set t i w) (suc i) ws
+
+-- words stored from the front of any table, with zeros behind them, are those of a cleared one
+pub front-filled : (t ws : List ℕ) → front (length ws) (sets t 0 ws) ≡ filled (length t) ws
+front-filled [] ws = rw (sets-none 0 ws) (front-all [] (length ws) (omega arith))
+front-filled (x ∷ t) [] = let e : suc (length t) - 0 ≡ suc (length t) = omega arith in rw e
+front-filled (x ∷ t) (w ∷ ws) =
+    let e : suc (length (sets t 0 ws)) - suc (length ws) ≡ length (sets t 0 ws) - length ws = omega arith in
+    rw (sets-cons w t 0 ws, sets-cons w (replicate (length t) 0) 0 ws, e) (ap (λ (l : List ℕ). w ∷ l) (front-filled t ws))

@@ -1,8 +1,8 @@
 -- A table is a list of words, and a record a row of them. A read stores rows from a word on; what stood elsewhere stays.
-use Prim.Native.Nat.{ℕ, _+_, _*_}
+use Prim.Native.Nat.{ℕ, _+_, _-_, _*_}
 use mathlib.Core.Path.{_≡_}
 use mathlib.Core.List.{List, [], _∷_, _++_, foldl}
-use lib.ListN.{length, replicate}
+use lib.ListN.{length, replicate, take}
 use lib.Seq.{sets}
 use Rattle.grammar.specs.declared.Cursor.{Cursor}
 use Rattle.grammar.specs.Outcome.{Outcome, got, refused, Parser, _>>=_, _>>_}
@@ -18,6 +18,10 @@ rows row (x ∷ xs) = row x ++ rows row xs
 -- a cleared table of so many words, with words stored from its front
 abbrev pub filled : ℕ → List ℕ → List ℕ
 filled size words = sets (replicate size 0) 0 words
+
+-- the first words of a table, and zeros behind them
+abbrev pub front : ℕ → List ℕ → List ℕ
+front n t = take n t ++ replicate (length t - n) 0
 
 -- what an answer says of a list: the places used behind it, and the next place in the file
 abbrev pub listedIs : Listed → Outcome ℕ

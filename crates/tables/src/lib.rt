@@ -1,8 +1,9 @@
 // Lent tables of words: cleared, and filled a row at a time.
 ghost use mathlib.Core.Path.{_≡_};
-ghost use Prim.Native.Nat.{_+_, _≤_};
+ghost use Prim.Native.Nat.{_+_, _*_, _≤_, _<_};
 ghost use lib.ListN.{length, replicate};
 ghost use lib.Seq.{sets};
+ghost use Rattle.tables.specs.Table.{front};
 use grammar::Cursor;
 use refusal::Refusal;
 
@@ -30,6 +31,21 @@ pub fn clear(t: &mut [u64])
     while i < t.len() {
         t[i] = 0;
         i += 1;
+    }
+}
+
+// Every word behind so many rows 0; the rows stay.
+pub fn clear_behind(t: &mut [u64], rows: usize, width: usize)
+    requires { ⌜ 0 < width ⌝ }
+    ensures { λ _. ⌜ now (t .exit) ≡ front (rows * width) (now (t .entry)) ⌝ }
+{
+    if t.len() / width < rows {
+        return;
+    }
+    let mut at = rows * width;
+    while at < t.len() {
+        t[at] = 0;
+        at += 1;
     }
 }
 

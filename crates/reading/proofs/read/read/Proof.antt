@@ -116,6 +116,9 @@ enum-told c = search needs
 used-requires : tie.Need-used-requires
 used-requires c κs = search needs
 
+clear-behind-requires : tie.Need-clear-behind-requires
+clear-behind-requires c κs = search needs
+
 artifact-requires : tie.Need-artifact-requires
 artifact-requires c κs = search needs
 
@@ -162,46 +165,46 @@ clear-requires-13 : tie.Need-clear-requires-13
 clear-requires-13 c κs = search needs
 
 same-length : tie.Need-same-length
-same-length c = (at-names (c .before .before .before .before) .names .kept .1 .1 .0)
+same-length c = c .before .before .before .before .before .before .before .before .before .before .before .before .before .before .before .before .before .before .before .before .before .before .before .before .before .before .before .clear-behind .kept .1 .0 ∙ at-names (c .before .before .before .before .before .before .before .before .before .before .before .before .before .before .before .before .before .before .before .before .before .before .before .before .before .before .before .before .before .before .before .before .before .before .before .before .before .before .before .before .before .before .before .before) .names .kept .1 .1 .0
 
 same-length-2 : tie.Need-same-length-2
-same-length-2 c = (at-constants (c .before .before .before .before) .constants .kept .1 .1 .0)
+same-length-2 c = c .before .before .before .before .before .before .before .before .before .before .before .before .before .before .before .before .before .before .before .before .before .before .before .before .before .before .before .clear-behind .kept .1 .1 .0 ∙ at-constants (c .before .before .before .before .before .before .before .before .before .before .before .before .before .before .before .before .before .before .before .before .before .before .before .before .before .before .before .before .before .before .before .before .before .before .before .before .before .before .before .before .before .before .before .before) .constants .kept .1 .1 .0
 
 same-length-3 : tie.Need-same-length-3
-same-length-3 c = (at-tokens (c .before .before .before .before) .tokens .kept .1 .1 .0)
+same-length-3 c = c .before .before .before .before .before .before .before .before .before .before .before .before .before .before .before .before .before .before .before .before .before .before .before .before .before .before .before .clear-behind .kept .1 .1 .1 .0 ∙ at-tokens (c .before .before .before .before .before .before .before .before .before .before .before .before .before .before .before .before .before .before .before .before .before .before .before .before .before .before .before .before .before .before .before .before .before .before .before .before .before .before .before .before .before .before .before .before) .tokens .kept .1 .1 .0
 
 same-length-4 : tie.Need-same-length-4
-same-length-4 c = (at-assigns (c .before .before .before .before) .assigns .kept .1 .1 .0)
+same-length-4 c = c .before .before .before .before .before .before .before .before .before .before .before .before .before .before .before .before .before .before .before .before .before .before .before .before .before .before .before .clear-behind .kept .1 .1 .1 .1 .0 ∙ at-assigns (c .before .before .before .before .before .before .before .before .before .before .before .before .before .before .before .before .before .before .before .before .before .before .before .before .before .before .before .before .before .before .before .before .before .before .before .before .before .before .before .before .before .before .before .before) .assigns .kept .1 .1 .0
 
 same-length-5 : tie.Need-same-length-5
-same-length-5 c = (at-chains (c .before .before .before .before) .chains .kept .1 .1 .1 .0)
+same-length-5 c = c .before .before .before .before .before .before .before .before .before .before .before .before .before .before .before .before .before .before .before .before .before .before .before .before .before .before .before .clear-behind .kept .1 .1 .1 .1 .1 .0 ∙ at-chains (c .before .before .before .before .before .before .before .before .before .before .before .before .before .before .before .before .before .before .before .before .before .before .before .before .before .before .before .before .before .before .before .before .before .before .before .before .before .before .before .before .before .before .before .before) .chains .kept .1 .1 .1 .0
 
 same-length-6 : tie.Need-same-length-6
-same-length-6 c = (at-chains (c .before .before .before .before) .chains .kept .1 .1 .1 .1 .0)
+same-length-6 c = c .before .before .before .before .before .before .before .before .before .before .before .before .before .before .before .before .before .before .before .before .before .before .before .before .before .before .before .clear-behind .kept .1 .1 .1 .1 .1 .1 .0 ∙ at-chains (c .before .before .before .before .before .before .before .before .before .before .before .before .before .before .before .before .before .before .before .before .before .before .before .before .before .before .before .before .before .before .before .before .before .before .before .before .before .before .before .before .before .before .before .before) .chains .kept .1 .1 .1 .1 .0
 
 same-length-7 : tie.Need-same-length-7
-same-length-7 c = (at-switches (c .before .before .before .before) .switches .kept .1 .1 .1 .0)
+same-length-7 c = c .before .before .before .before .before .before .before .before .before .before .before .before .before .before .before .before .before .before .before .before .before .before .before .before .before .before .before .clear-behind .kept .1 .1 .1 .1 .1 .1 .1 .0 ∙ at-switches (c .before .before .before .before .before .before .before .before .before .before .before .before .before .before .before .before .before .before .before .before .before .before .before .before .before .before .before .before .before .before .before .before .before .before .before .before .before .before .before .before .before .before .before .before) .switches .kept .1 .1 .1 .0
 
 same-length-8 : tie.Need-same-length-8
-same-length-8 c = (at-switches (c .before .before .before .before) .switches .kept .1 .1 .1 .1 .0)
+same-length-8 c = c .before .before .before .before .before .before .before .before .before .before .before .before .before .before .before .before .before .before .before .before .before .before .before .before .before .before .before .clear-behind .kept .1 .1 .1 .1 .1 .1 .1 .1 .0 ∙ at-switches (c .before .before .before .before .before .before .before .before .before .before .before .before .before .before .before .before .before .before .before .before .before .before .before .before .before .before .before .before .before .before .before .before .before .before .before .before .before .before .before .before .before .before .before .before) .switches .kept .1 .1 .1 .1 .0
 
 same-length-9 : tie.Need-same-length-9
-same-length-9 c = (at-switches (c .before .before .before .before) .switches .kept .1 .1 .1 .1 .1 .0)
+same-length-9 c = c .before .before .before .before .before .before .before .before .before .before .before .before .before .before .before .before .before .before .before .before .before .before .before .before .before .before .before .clear-behind .kept .1 .1 .1 .1 .1 .1 .1 .1 .1 .0 ∙ at-switches (c .before .before .before .before .before .before .before .before .before .before .before .before .before .before .before .before .before .before .before .before .before .before .before .before .before .before .before .before .before .before .before .before .before .before .before .before .before .before .before .before .before .before .before .before) .switches .kept .1 .1 .1 .1 .1 .0
 
 same-length-10 : tie.Need-same-length-10
-same-length-10 c = (at-customs (c .before .before .before .before) .customs .kept .1 .1 .0)
+same-length-10 c = c .before .before .before .before .before .before .before .before .before .before .before .before .before .before .before .before .before .before .before .before .before .before .before .before .before .before .before .clear-behind .kept .1 .1 .1 .1 .1 .1 .1 .1 .1 .1 .0 ∙ at-customs (c .before .before .before .before .before .before .before .before .before .before .before .before .before .before .before .before .before .before .before .before .before .before .before .before .before .before .before .before .before .before .before .before .before .before .before .before .before .before .before .before .before .before .before .before) .customs .kept .1 .1 .0
 
 same-length-11 : tie.Need-same-length-11
-same-length-11 c = (at-customs (c .before .before .before .before) .customs .kept .1 .1 .1 .0)
+same-length-11 c = c .before .before .before .before .before .before .before .before .before .before .before .before .before .before .before .before .before .before .before .before .before .before .before .before .before .before .before .clear-behind .kept .1 .1 .1 .1 .1 .1 .1 .1 .1 .1 .1 .0 ∙ at-customs (c .before .before .before .before .before .before .before .before .before .before .before .before .before .before .before .before .before .before .before .before .before .before .before .before .before .before .before .before .before .before .before .before .before .before .before .before .before .before .before .before .before .before .before .before) .customs .kept .1 .1 .1 .0
 
 same-length-12 : tie.Need-same-length-12
-same-length-12 c = (at-functions (c .before .before .before .before) .functions .kept .1 .1 .0)
+same-length-12 c = c .before .before .before .before .before .before .before .before .before .before .before .before .before .before .before .before .before .before .before .before .before .before .before .before .before .before .before .clear-behind .kept .1 .1 .1 .1 .1 .1 .1 .1 .1 .1 .1 .1 .0 ∙ at-functions (c .before .before .before .before .before .before .before .before .before .before .before .before .before .before .before .before .before .before .before .before .before .before .before .before .before .before .before .before .before .before .before .before .before .before .before .before .before .before .before .before .before .before .before .before) .functions .kept .1 .1 .0
 
 same-length-13 : tie.Need-same-length-13
-same-length-13 c = (at-functions (c .before .before .before .before) .functions .kept .1 .1 .1 .0)
+same-length-13 c = c .before .before .before .before .before .before .before .before .before .before .before .before .before .before .before .before .before .before .before .before .before .before .before .before .before .before .before .clear-behind .kept .1 .1 .1 .1 .1 .1 .1 .1 .1 .1 .1 .1 .1 .0 ∙ at-functions (c .before .before .before .before .before .before .before .before .before .before .before .before .before .before .before .before .before .before .before .before .before .before .before .before .before .before .before .before .before .before .before .before .before .before .before .before .before .before .before .before .before .before .before .before) .functions .kept .1 .1 .1 .0
 
 returns : tie.Need-returns
-returns c = at-last _ _ _ _ _ _ _ _ _ _ _ _ _ _ _ _ _ _ _ _ _ _ _ _ _ _ _ _ _ _ _ _ _ _ _ _ _ _ _ _ _ _ (ran (c .before .before .before .before)) (c .before .before .enum-told .given .1) _ (rw (c .artifact .ensures, c .before .used .ensures))
+returns c = at-last _ _ _ _ _ _ _ _ _ _ _ _ _ _ _ _ _ _ _ _ _ _ _ _ _ _ _ _ _ _ _ _ _ _ _ _ _ _ _ _ _ _ (ran (c .before .before .before .before .before .before .before .before .before .before .before .before .before .before .before .before .before .before .before .before .before .before .before .before .before .before .before .before .before .before .before .before .before .before .before .before .before .before .before .before .before .before .before .before)) (c .before .before .before .before .before .before .before .before .before .before .before .before .before .before .before .before .before .before .before .before .before .before .before .before .before .before .before .before .before .before .before .before .before .before .before .before .before .before .before .before .before .before .enum-told .given .1) (c .before .before .before .before .before .before .before .before .before .before .before .before .before .before .before .before .before .before .before .before .before .before .before .before .before .before .before .before .before .before .before .before .before .before .before .before .before .before .before .before .before .used .ensures) _ (c .before .before .before .before .before .before .before .before .before .before .before .before .before .before .before .before .before .before .before .before .before .before .before .before .before .before .before .clear-behind .ensures) _ (rw (c .artifact .ensures, c .before .before .before .before .before .before .before .before .before .before .before .before .before .before .before .before .before .before .before .before .before .before .before .before .before .before .before .before .before .before .before .before .before .before .before .before .before .before .before .before .before .used .ensures))
 
 same-length-14 : tie.Need-same-length-14
 same-length-14 c = c .before .before .before .before .before .before .before .before .before .before .before .before .before .before .before .before .before .before .before .before .before .before .before .before .before .before .before .before .before .before .before .before .before .before .before .before .before .before .before .before .before .before .before .before .before .before .before .before .before .before .clear .kept .0 ∙ (at-names (c .before .before .before .before .before .before .before .before .before .before .before .before .before .before .before .before .before .before .before .before .before .before .before .before .before .before .before .before .before .before .before .before .before .before .before .before .before .before .before .before .before .before .before .before .before .before .before .before .before .before .before .before .before .before .before) .names .kept .1 .1 .0)
@@ -265,6 +268,7 @@ read-spec =
     end-requires
     enum-told
     used-requires
+    clear-behind-requires
     artifact-requires
     enum-known-r
     clear-requires

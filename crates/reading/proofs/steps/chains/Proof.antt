@@ -1,6 +1,4 @@
--- The tables are cleared, and the section read into them.
-use Prim.Native.Nat.{ℕ}
-use lib.ListN.{length, length-replicate}
+-- The section is read into its tables; a refusal is handed on.
 use mathlib.Core.Path.{ap, refl}
 use Rattle.tables.specs.declared.Listed.{Listed}
 use Rattle.tables.specs.Table.{listedIs}
@@ -12,12 +10,6 @@ use Rattle.reading.proofs.steps.chains.Tie as tie
 
 enum-known-before : tie.Need-enum-known-before
 enum-known-before c = search needs
-
-clear-requires : tie.Need-clear-requires
-clear-requires c κs = search needs
-
-clear-requires-2 : tie.Need-clear-requires-2
-clear-requires-2 c κs = search needs
 
 chains-requires : tie.Need-chains-requires
 chains-requires c κs = search needs
@@ -32,7 +24,7 @@ same-length-2 : tie.Need-same-length-2
 same-length-2 c = search needs
 
 returns : tie.Need-returns
-returns c = step-goes (ap (λ (a : Listed). placeOf (listedIs a)) (c .before .before .before .before .before .before .before .before .before .before .before .before .before .before .before .before .before2 .given .1)) (rw (c .before .before .before .before .before .before .before .before .before .before .before .before .before .clear .ensures, c .before .before .before .before .before .before .before .before .before .clear2 .ensures, length-replicate {A = ℕ} (length (c .before .before .before .before .before .before .before .before .before .before .before .before .before .before .before .before .before .before .before .before .before .args .t .now)) 0, length-replicate {A = ℕ} (length (c .before .before .before .before .before .before .before .before .before .before .before .before .before .before .before .before .before .before .before .before .before .args .steps .now)) 0) at (c .before .before .before .before .chains .ensures))
+returns c = step-goes (ap (λ (a : Listed). placeOf (listedIs a)) (c .before .before .before .before .before .before .before .before .before2 .given .1)) (c .before .before .before .before .chains .ensures)
 
 returns-2 : tie.Need-returns-2
 returns-2 c = step-stops (ap (λ (a : Listed). placeOf (listedIs a)) (c .before .before3 .given .1)) refl
@@ -42,8 +34,6 @@ chains-spec =
     tie.close
     (tie.spec
     enum-known-before
-    clear-requires
-    clear-requires-2
     chains-requires
     enum-known-before-2
     same-length

@@ -1,6 +1,4 @@
--- The table is cleared, and the section read into it.
-use Prim.Native.Nat.{ℕ}
-use lib.ListN.{length, length-replicate}
+-- The section is read into its table; a refusal is handed on.
 use mathlib.Core.Path.{ap, refl}
 use Rattle.fields.specs.declared.ReadText.{ReadText}
 use Rattle.fields.specs.Answers.{textIs}
@@ -13,9 +11,6 @@ use Rattle.reading.proofs.steps.names.Tie as tie
 enum-known-before : tie.Need-enum-known-before
 enum-known-before c = search needs
 
-clear-requires : tie.Need-clear-requires
-clear-requires c κs = search needs
-
 names-requires : tie.Need-names-requires
 names-requires c κs = search needs
 
@@ -26,7 +21,7 @@ same-length : tie.Need-same-length
 same-length c = search needs
 
 returns : tie.Need-returns
-returns c = step-goes (ap (λ (a : ReadText). placeOf (textIs (c .before .before .before .before .before .before .before .before .before .before .before .before .before .args .s .now) a)) (c .before .before .before .before .before .before .before .before .before .before2 .given .1)) (rw (c .before .before .before .before .before .before .clear .ensures, length-replicate {A = ℕ} (length (c .before .before .before .before .before .before .before .before .before .before .before .before .before .args .t .now)) 0) at (c .before .before .names .ensures))
+returns c = step-goes (ap (λ (a : ReadText). placeOf (textIs (c .before .before .before .before .before .before .before .before .before .args .s .now) a)) (c .before .before .before .before .before .before2 .given .1)) (c .before .before .names .ensures)
 
 returns-2 : tie.Need-returns-2
 returns-2 c = step-stops (ap (λ (a : ReadText). placeOf (textIs (c .before .before .before .before .before .args .s .now) a)) (c .before .before3 .given .1)) refl
@@ -36,7 +31,6 @@ names-spec =
     tie.close
     (tie.spec
     enum-known-before
-    clear-requires
     names-requires
     enum-known-before-2
     same-length

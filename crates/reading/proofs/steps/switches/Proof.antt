@@ -1,6 +1,4 @@
--- The tables are cleared, and the section read into them.
-use Prim.Native.Nat.{ℕ}
-use lib.ListN.{length, length-replicate}
+-- The section is read into its tables; a refusal is handed on.
 use mathlib.Core.Path.{ap, refl}
 use Rattle.tables.specs.declared.Nested.{Nested}
 use Rattle.tables.specs.Table.{nestedIs}
@@ -12,15 +10,6 @@ use Rattle.reading.proofs.steps.switches.Tie as tie
 
 enum-known-before : tie.Need-enum-known-before
 enum-known-before c = search needs
-
-clear-requires : tie.Need-clear-requires
-clear-requires c κs = search needs
-
-clear-requires-2 : tie.Need-clear-requires-2
-clear-requires-2 c κs = search needs
-
-clear-requires-3 : tie.Need-clear-requires-3
-clear-requires-3 c κs = search needs
 
 tops-requires : tie.Need-tops-requires
 tops-requires c κs = search needs
@@ -41,7 +30,7 @@ same-length-3 : tie.Need-same-length-3
 same-length-3 c = search needs
 
 returns : tie.Need-returns
-returns c = step-goes (ap (λ (a : Nested). placeOf (nestedIs a)) (c .before .before .before .before .before .before .before .before .before .before .before .before .before .before .before .before .before .before .before .before .before .before .before .before .before2 .given .1)) (rw (c .before .before .before .before .before .before .before .before .before .before .before .before .before .before .before .before .before .before .before .before .before .clear .ensures, c .before .before .before .before .before .before .before .before .before .before .before .before .before .before .before .before .before .clear2 .ensures, c .before .before .before .before .before .before .before .before .before .before .before .before .before .clear3 .ensures, length-replicate {A = ℕ} (length (c .before .before .before .before .before .before .before .before .before .before .before .before .before .before .before .before .before .before .before .before .before .before .before .before .before .before .before .before .before .before .args .t .now)) 0, length-replicate {A = ℕ} (length (c .before .before .before .before .before .before .before .before .before .before .before .before .before .before .before .before .before .before .before .before .before .before .before .before .before .before .before .before .before .before .args .cases .now)) 0, length-replicate {A = ℕ} (length (c .before .before .before .before .before .before .before .before .before .before .before .before .before .before .before .before .before .before .before .before .before .before .before .before .before .before .before .before .before .before .args .ranges .now)) 0, c .before .before .before .before .before .before .before .before .before .before .tops .ensures) at (c .before .before .before .before .before .before .switches .ensures))
+returns c = step-goes (ap (λ (a : Nested). placeOf (nestedIs a)) (c .before .before .before .before .before .before .before .before .before .before .before .before .before2 .given .1)) (rw (c .before .before .before .before .before .before .before .before .before .before .tops .ensures) at (c .before .before .before .before .before .before .switches .ensures))
 
 returns-2 : tie.Need-returns-2
 returns-2 c = step-stops (ap (λ (a : Nested). placeOf (nestedIs a)) (c .before .before3 .given .1)) refl
@@ -51,9 +40,6 @@ switches-spec =
     tie.close
     (tie.spec
     enum-known-before
-    clear-requires
-    clear-requires-2
-    clear-requires-3
     tops-requires
     switches-requires
     enum-known-before-2
