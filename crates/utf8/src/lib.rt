@@ -267,6 +267,15 @@ fn is_short_ascii(s: &[u8], start: usize, size: usize) -> bool
     false
 }
 
+// The machine alone: in short text that is not all ASCII no block of ASCII is looked for.
+fn is_utf8_by_byte(bytes: &[u8]) -> bool
+    ensures { λ r. ⌜ r ≡ isUtf8 (now (bytes .entry)) ⌝ }
+{
+    let classes = CLASSES;
+    let words = WORDS;
+    walk(bytes, 0, bytes.len(), BETWEEN, &classes, &words) == BETWEEN
+}
+
 // Whether so many bytes from a place on are UTF-8; what lies past the end is not there.
 pub fn is_utf8_at(s: &[u8], start: usize, size: usize) -> bool
     ensures { λ r. ⌜ r ≡ isUtf8 (take size (drop start (now (s .entry)))) ⌝ }
@@ -281,9 +290,8 @@ pub fn is_utf8_at(s: &[u8], start: usize, size: usize) -> bool
         return true;
     }
     let end = start + size;
-    // Short text that is not all ASCII is not looked through once more for where its ASCII ends.
     if size < 32 {
-        return is_utf8_from(&s[start..end], 0);
+        return is_utf8_by_byte(&s[start..end]);
     }
     is_utf8(&s[start..end])
 }

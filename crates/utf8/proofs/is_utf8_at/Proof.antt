@@ -40,21 +40,21 @@ returns-3 c =
 add-end : tie.Need-add-end
 add-end c = search needs
 
-sub-is-utf8-from : tie.Need-sub-is-utf8-from
-sub-is-utf8-from c = search needs
+sub-is-utf8-by-byte : tie.Need-sub-is-utf8-by-byte
+sub-is-utf8-by-byte c = search needs
 
-part-is-utf8-from-start : tie.Need-part-is-utf8-from-start
-part-is-utf8-from-start c = search needs
+part-is-utf8-by-byte-start : tie.Need-part-is-utf8-by-byte-start
+part-is-utf8-by-byte-start c = search needs
 
-part-is-utf8-from-end : tie.Need-part-is-utf8-from-end
-part-is-utf8-from-end c = search needs
+part-is-utf8-by-byte-end : tie.Need-part-is-utf8-by-byte-end
+part-is-utf8-by-byte-end c = search needs
 
-is-utf8-from-requires : tie.Need-is-utf8-from-requires
-is-utf8-from-requires c κs = search needs
+is-utf8-by-byte-requires : tie.Need-is-utf8-by-byte-requires
+is-utf8-by-byte-requires c κs = search needs
 
 returns-4 : tie.Need-returns-4
 returns-4 c =
-    c .is-utf8-from .ensures ∙ run-text (c .before .before .before .before .before .before .before .before .args .s .now) (c .before .before .before .before .before .before .before .before .args .start) (c .before .before .before .before .before .before .before .before .args .size)
+    c .is-utf8-by-byte .ensures ∙ run-text (c .before .before .before .before .before .before .before .before .args .s .now) (c .before .before .before .before .before .before .before .before .args .start) (c .before .before .before .before .before .before .before .before .args .size)
 
 sub-is-utf8-2 : tie.Need-sub-is-utf8-2
 sub-is-utf8-2 c = search needs
@@ -86,10 +86,10 @@ is-utf8-at-spec =
     is-short-ascii-requires
     returns-3
     add-end
-    sub-is-utf8-from
-    part-is-utf8-from-start
-    part-is-utf8-from-end
-    is-utf8-from-requires
+    sub-is-utf8-by-byte
+    part-is-utf8-by-byte-start
+    part-is-utf8-by-byte-end
+    is-utf8-by-byte-requires
     returns-4
     sub-is-utf8-2
     part-is-utf8-start-2
