@@ -4,8 +4,8 @@ use Rattle.grammar.specs.Outcome.{pure, refuse, _>>=_}
 use Rattle.grammar.specs.Combinators.{Each, taking, byte, fixed, text, check, left, room, _⇒_∣_, unknown, many}
 use Rattle.grammar.specs.Combinators as combinators
 use Rattle.grammar.specs.Number.{groups, number, unzigzag, signed, shortestIn, shortest}
-use Rattle.pos.specs.Table.{field, reached, entries, table, whole, checked, walked, seek, resolved}
-use Rattle.pos.specs.Encode.{kept, order, entriesOf, bytesOf, encoded, encodedBytes}
+use Rattle.position_table.specs.Table.{field, reached, entries, table, whole, checked, walked, seek, resolved}
+use Rattle.position_table.specs.Encode.{kept, order, entriesOf, bytesOf, encoded, encodedBytes}
 use Rattle.utf8.specs.Syntax.{UTF8-char}
 use Rattle.utf8.specs.Check.{first, next, passes, isUtf8}
 use Rattle.tables.specs.Table.{records, nested}

@@ -8,11 +8,11 @@ use Rattle.refusal.specs.declared.Refusal.{Refusal}
 use Rattle.refusal.specs.declared.PositionsFault.{PositionsFault}
 use Rattle.grammar.specs.Outcome.{start, advanced, Outcome, got, refused}
 use Rattle.grammar.specs.Number.{number, signed, shortest}
-use Rattle.pos.specs.declared.Site.{Site}
-use Rattle.pos.specs.declared.Checked.{Checked}
-use Rattle.pos.specs.declared.Resolved.{Resolved}
-use Rattle.pos.specs.Table.{checked, resolved}
-use Rattle.pos.specs.Encode.{encodedBytes}
+use Rattle.position_table.specs.declared.Site.{Site}
+use Rattle.position_table.specs.declared.Checked.{Checked}
+use Rattle.position_table.specs.declared.Resolved.{Resolved}
+use Rattle.position_table.specs.Table.{checked, resolved}
+use Rattle.position_table.specs.Encode.{encodedBytes}
 use Rattle.format.specs.Artifact.{Places, Artifact}
 use Rattle.format.specs.File.{read}
 use Rattle.format.specs.Rows.{tablesOf}

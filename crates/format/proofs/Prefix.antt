@@ -5,7 +5,7 @@ use Rattle.grammar.specs.Outcome.{Parser}
 use Rattle.grammar.specs.Combinators.{Text}
 use Rattle.grammar.specs.Prefix.{Whole}
 use Rattle.grammar.proofs.Prefix.{whole-rules, whole-pure, whole-refuse, whole-bind, whole-number, whole-many, whole-room}
-use Rattle.pos.specs.declared.Checked.{Checked}
+use Rattle.position_table.specs.declared.Checked.{Checked}
 use Rattle.tables.specs.Table.{records, Used, nested}
 use Rattle.format.specs.File.{string, bytes, list, nameIndex, position, chunk, header, names, kind, constant, constants, tokens, assign, assigns, root, step, tail, chain, chains, case, caseRange, switch, switches, input, site, customs, access, thisType, function, functions, sound, positions, artifact}
 use Rattle.format.specs.Artifact.{Places}

@@ -15,8 +15,8 @@ use Rattle.grammar.specs.Outcome.{Outcome, refused, Parser, pure, refuse, _>>=_
 use Rattle.grammar.specs.Combinators.{if_then_else_, byte, fixed, Text, text, place, check, left, room, _⇒_∣_, unknown, many, file}
 use Rattle.grammar.specs.Number.{number, index, small, signed}
 use Rattle.utf8.specs.Check.{isUtf8}
-use Rattle.pos.specs.declared.Checked.{Checked}
-use Rattle.pos.specs.Table.{checked}
+use Rattle.position_table.specs.declared.Checked.{Checked}
+use Rattle.position_table.specs.Table.{checked}
 use Rattle.tables.specs.Table.{records, Used, nested, With, countItems}
 use Rattle.format.specs.declared.records.NameIndex.{NameIndex}
 use Rattle.format.specs.declared.records.ConstantIndex.{ConstantIndex}

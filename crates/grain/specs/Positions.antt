@@ -3,10 +3,10 @@ use Prim.Native.Nat.{ℕ, _/_, _%_, _^_}
 use mathlib.Core.List.{List, [], _∷_}
 use Rattle.refusal.specs.declared.Row.{Row}
 use Rattle.refusal.specs.Numbers.{rowOf, rowIs}
-use Rattle.pos.specs.declared.Checked.{Checked}
-use Rattle.pos.specs.declared.Counted.{Counted}
-use Rattle.pos.specs.declared.Resolved.{Resolved}
-use Rattle.pos.specs.declared.Encoded.{Encoded}
+use Rattle.position_table.specs.declared.Checked.{Checked}
+use Rattle.position_table.specs.declared.Counted.{Counted}
+use Rattle.position_table.specs.declared.Resolved.{Resolved}
+use Rattle.position_table.specs.declared.Encoded.{Encoded}
 
 -- the two values that are lent
 abbrev pub valuesOf : Row → List ℕ

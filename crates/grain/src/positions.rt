@@ -4,14 +4,14 @@ ghost use mathlib.Core.Path.{_≡_};
 ghost use lib.ListN.{length};
 ghost use Rattle.debug_id.specs.DebugId.{debugId};
 ghost use Rattle.refusal.specs.Numbers.{rowIs};
-ghost use Rattle.pos.specs.Encode.{sitesOf, encoded, encodedBytes};
-ghost use Rattle.pos.specs.Table.{checked, counted, resolved};
+ghost use Rattle.position_table.specs.Encode.{sitesOf, encoded, encodedBytes};
+ghost use Rattle.position_table.specs.Table.{checked, counted, resolved};
 ghost use Rattle.grain.specs.Positions.{valuesOf, checkedRow, countedAnswer, countOr, encodedRow, found, siteValues, halvesOf};
 use crate::numbers;
-use pos::Checked;
-use pos::Counted;
-use pos::Encoded;
-use pos::Resolved;
+use position_table::Checked;
+use position_table::Counted;
+use position_table::Encoded;
+use position_table::Resolved;
 use refusal::Row;
 
 pub fn put_values(values: &mut [u64; 2], row: Row)

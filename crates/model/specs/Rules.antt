@@ -10,8 +10,8 @@ use lib.Bits.{bitAnd}
 use Rattle.grammar.specs.declared.Span.{Span}
 use Rattle.grammar.specs.Combinators.{if_then_else_}
 use Rattle.utf8.specs.Check.{isUtf8}
-use Rattle.pos.specs.declared.Checked.{Checked}
-use Rattle.pos.specs.Table.{checked}
+use Rattle.position_table.specs.declared.Checked.{Checked}
+use Rattle.position_table.specs.Table.{checked}
 use Rattle.format.specs.File.{rising, lastEnd, scalar}
 use Rattle.format.specs.Artifact.{levels}
 use Rattle.format.specs.declared.answer.Used.{Used}

@@ -15,7 +15,7 @@ use Rattle.grammar.specs.Combinators.{if_then_else_}
 use Rattle.grammar.specs.Number.{shortest, shortestIn}
 use Rattle.varint.proofs.Shortest.{more-group, last-group}
 use Rattle.pos.proofs.Shorts.{low-left, low-right, low-one, low-two, low-three}
-use Rattle.pos.specs.declared.Site.{Site}
+use Rattle.position_table.specs.declared.Site.{Site}
 use Rattle.pos.specs.declared.encoding.Measured.{Measured}
 use Rattle.pos.specs.declared.encoding.Place.{Place}
 use Rattle.pos.specs.Passes.{entryOf, fallsTo, offended, grown, measured, writes, placeAfter, bytesAfter}

@@ -17,7 +17,7 @@ use Rattle.varint.specs.Holding.{Holding}
 use Rattle.varint.proofs.Groups.{holding-none, holding-last, holding-more}
 use Rattle.pos.specs.declared.skim.Short.{Short}
 use Rattle.pos.specs.declared.skim.ShortSite.{ShortSite}
-use Rattle.pos.specs.Table.{field}
+use Rattle.position_table.specs.Table.{field}
 use Rattle.pos.specs.Steps.{placed}
 use Rattle.pos.specs.Skim.{none, noSite, NumberAt, Whole, SiteAt, Entry}
 

@@ -13,12 +13,12 @@ use borrow.Author.Tests.{lt-ltb, le-ltb, ltb-true, ltb-false, le-leb, lt-leb, le
 use Rattle.refusal.specs.declared.Refusal.{Refusal}
 use Rattle.grammar.specs.Combinators.{if_then_else_}
 use Rattle.grammar.specs.Number.{shortest}
-use Rattle.pos.specs.declared.Site.{Site}
-use Rattle.pos.specs.declared.Encoded.{Encoded}
+use Rattle.position_table.specs.declared.Site.{Site}
+use Rattle.position_table.specs.declared.Encoded.{Encoded}
 use Rattle.pos.specs.declared.encoding.Measured.{Measured}
 use Rattle.pos.specs.declared.encoding.Place.{Place}
-use Rattle.pos.specs.Table.{Previous, none, earlier}
-use Rattle.pos.specs.Encode.{sitesOf, kept, Order, ascending, offence, order, entriesOf, bytesOf, roomFor, ordered, encoded, leaving, encodedBytes}
+use Rattle.position_table.specs.Table.{Previous, none, earlier}
+use Rattle.position_table.specs.Encode.{sitesOf, kept, Order, ascending, offence, order, entriesOf, bytesOf, roomFor, ordered, encoded, leaving, encodedBytes}
 use Rattle.pos.specs.Passes.{entryOf, unmeasured, fallsTo, offended, grown, measured, measuredAll, judgedOf, placeAfter, bytesAfter, writtenAll, behindCount, withCount, writtenFrom}
 use Rattle.pos.proofs.Puts.{entry-small, short-ten, sets-append, measured-dropped, measured-broken, measured-falls, measured-grown, writes-dropped, writes-fits, unwritten, written}
 

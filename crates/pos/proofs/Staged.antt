@@ -7,12 +7,12 @@ use native.Mathlib.Omega.{arith}
 use lib.ListN.{length, getD, drop, drop-of-length-le}
 use lib.Seq.{drop-cons}
 use Rattle.refusal.specs.declared.Refusal.{Refusal}
-use Rattle.pos.specs.declared.Site.{Site}
-use Rattle.pos.specs.declared.Encoded.{Encoded}
+use Rattle.position_table.specs.declared.Site.{Site}
+use Rattle.position_table.specs.declared.Encoded.{Encoded}
 use Rattle.pos.specs.declared.encoding.Measured.{Measured}
 use Rattle.pos.specs.declared.encoding.Place.{Place}
 use Rattle.pos.specs.declared.stages.Stage.{Stage}
-use Rattle.pos.specs.Encode.{encoded, encodedBytes}
+use Rattle.position_table.specs.Encode.{encoded, encodedBytes}
 use Rattle.pos.specs.Passes.{unmeasured, measured, measuredAll, judgedOf, placeAfter, bytesAfter, writtenAll, behindCount, withCount, writtenFrom}
 use Rattle.pos.specs.Stages.{stageAfter, outAfter, stageAfterAll, outAfterAll, Opens, written, countedIn, openedOf, openedOut, answerOf}
 use Rattle.pos.proofs.Sites.{after-same, judged-is, left-alone, count-fits, all-bytes}

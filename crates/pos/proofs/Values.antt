@@ -5,10 +5,10 @@ use mir.Val.{Val}
 use denote.Laws.{Is}
 use denote.Enum.Laws as EL
 use denote.Struct.Laws as LL
-use Rattle.pos.specs.declared.Site.{Site}
+use Rattle.position_table.specs.declared.Site.{Site}
 use Rattle.pos.specs.declared.stages.Stage.{Stage}
-use Rattle.pos.proofs.Site as T
-use Rattle.pos.proofs.Site.Laws as T′
+use Rattle.position_table.proofs.Site as T
+use Rattle.position_table.proofs.Site.Laws as T′
 use Rattle.pos.proofs.stages.Stage as S
 use Rattle.pos.proofs.stages.Stage.Laws as S′
 

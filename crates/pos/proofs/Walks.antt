@@ -17,11 +17,11 @@ use Rattle.grammar.specs.Combinators.{if_then_else_, check}
 use Rattle.grammar.specs.Number.{number}
 use Rattle.grammar.proofs.Number.{number-below}
 use Rattle.grammar.proofs.Outcome.{got-ne-refused}
-use Rattle.pos.specs.declared.Site.{Site}
-use Rattle.pos.specs.declared.Checked.{Checked}
-use Rattle.pos.specs.declared.Resolved.{Resolved}
+use Rattle.position_table.specs.declared.Site.{Site}
+use Rattle.position_table.specs.declared.Checked.{Checked}
+use Rattle.position_table.specs.declared.Resolved.{Resolved}
 use Rattle.pos.specs.declared.reading.Reached.{Reached}
-use Rattle.pos.specs.Table.{inTable, field, Previous, none, earlier, reached, entries, table, whole, asChecked, checked, walked, siteFor, seek, orNothing, resolved}
+use Rattle.position_table.specs.Table.{inTable, field, Previous, none, earlier, reached, entries, table, whole, asChecked, checked, walked, siteFor, seek, orNothing, resolved}
 use Rattle.pos.specs.Steps.{reachOf, reachIs, placed, entryAt, endedAt, endsAs}
 use Rattle.pos.specs.declared.skim.ShortSite.{ShortSite}
 use Rattle.pos.specs.declared.skim.Walk.{Walk}

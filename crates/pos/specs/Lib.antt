@@ -1,7 +1,4 @@
--- Position tables as document 01 has them: how they are read, checked and resolved, and what is encoded.
--- Then what the inner steps of the code say.
-pub mod Table
-pub mod Encode
+-- What the inner steps of the code say; what a position table is stands in `positions`.
 pub mod Steps
 pub mod Skim
 pub mod Passes

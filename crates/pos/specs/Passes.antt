@@ -8,11 +8,11 @@ use lib.Dec.{leb, ltb, eqb}
 use Rattle.refusal.specs.declared.Refusal.{Refusal}
 use Rattle.grammar.specs.Combinators.{if_then_else_}
 use Rattle.grammar.specs.Number.{shortest}
-use Rattle.pos.specs.declared.Site.{Site}
-use Rattle.pos.specs.declared.Encoded.{Encoded}
+use Rattle.position_table.specs.declared.Site.{Site}
+use Rattle.position_table.specs.declared.Encoded.{Encoded}
 use Rattle.pos.specs.declared.encoding.Measured.{Measured}
 use Rattle.pos.specs.declared.encoding.Place.{Place}
-use Rattle.pos.specs.Encode.{roomFor}
+use Rattle.position_table.specs.Encode.{roomFor}
 
 -- a site behind the address before it
 unfoldable pub entryOf : ℕ → Site → List ℕ

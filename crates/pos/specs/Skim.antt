@@ -6,13 +6,13 @@ use mathlib.Core.List.{List}
 use lib.ListN.{length}
 use Rattle.grammar.specs.declared.Cursor.{Cursor}
 use Rattle.grammar.specs.Outcome.{start, advanced, got}
-use Rattle.pos.specs.declared.Site.{Site}
-use Rattle.pos.specs.declared.Checked.{Checked}
-use Rattle.pos.specs.declared.Resolved.{Resolved}
+use Rattle.position_table.specs.declared.Site.{Site}
+use Rattle.position_table.specs.declared.Checked.{Checked}
+use Rattle.position_table.specs.declared.Resolved.{Resolved}
 use Rattle.pos.specs.declared.skim.Short.{Short}
 use Rattle.pos.specs.declared.skim.ShortSite.{ShortSite}
 use Rattle.pos.specs.declared.skim.Walk.{Walk}
-use Rattle.pos.specs.Table.{Previous, none as nothing, earlier, field, entries, checked, seek, orNothing}
+use Rattle.position_table.specs.Table.{Previous, none as nothing, earlier, field, entries, checked, seek, orNothing}
 use Rattle.pos.specs.Steps.{placed, endsAs}
 
 -- not short

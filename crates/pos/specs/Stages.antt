@@ -4,8 +4,8 @@ use mathlib.Core.Path.{_≡_}
 use mathlib.Core.List.{List, [], _∷_}
 use lib.ListN.{length}
 use Rattle.grammar.specs.Number.{shortest}
-use Rattle.pos.specs.declared.Site.{Site}
-use Rattle.pos.specs.declared.Encoded.{Encoded}
+use Rattle.position_table.specs.declared.Site.{Site}
+use Rattle.position_table.specs.declared.Encoded.{Encoded}
 use Rattle.pos.specs.declared.encoding.Measured.{Measured}
 use Rattle.pos.specs.declared.stages.Stage.{Stage}
 use Rattle.pos.specs.Passes.{measured, judgedOf, placeAfter, bytesAfter, behindCount, withCount}

@@ -9,11 +9,11 @@ use Rattle.refusal.specs.declared.PositionsFault.{PositionsFault}
 use Rattle.refusal.specs.Numbers.{rowOf}
 use Rattle.grammar.specs.Outcome.{Outcome, got, refused, Parser, pure, _>>=_}
 use Rattle.grammar.specs.Combinators.{if_then_else_}
-use Rattle.pos.specs.declared.Site.{Site}
-use Rattle.pos.specs.declared.Checked.{Checked}
+use Rattle.position_table.specs.declared.Site.{Site}
+use Rattle.position_table.specs.declared.Checked.{Checked}
 use Rattle.pos.specs.declared.reading.Reached.{Reached}
 use Rattle.pos.specs.declared.reading.ReadSite.{ReadSite}
-use Rattle.pos.specs.Table.{field}
+use Rattle.position_table.specs.Table.{field}
 
 -- what a table says of a refused number
 abbrev pub inTableOf : Refusal → Refusal

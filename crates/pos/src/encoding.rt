@@ -6,10 +6,10 @@ ghost use lib.ListN.{length};
 ghost use lib.Seq.{sets};
 ghost use lib.Dec.{leb};
 ghost use Rattle.grammar.specs.Number.{shortest};
-ghost use Rattle.pos.specs.Encode.{sitesOf};
+ghost use Rattle.position_table.specs.Encode.{sitesOf};
 ghost use Rattle.pos.specs.Passes as passes;
-use crate::Encoded;
-use crate::Site;
+use position_table::Encoded;
+use position_table::Site;
 use refusal::Refusal;
 
 // What the sites seen so far come to: how many are kept, the address of the last of these, their size, and whether one

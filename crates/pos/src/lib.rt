@@ -2,11 +2,16 @@
 ghost use mathlib.Core.Path.{_≡_};
 ghost use Prim.Native.Nat.{_-_, _≤_};
 ghost use lib.ListN.{length};
-ghost use Rattle.pos.specs.Encode.{sitesOf, encoded, encodedBytes};
-ghost use Rattle.pos.specs.Table.{counted, checked, resolved, siteFor};
+ghost use Rattle.position_table.specs.Encode.{sitesOf, encoded, encodedBytes};
+ghost use Rattle.position_table.specs.Table.{counted, checked, resolved, siteFor};
 ghost use Rattle.pos.specs.Steps.{endedAt};
 ghost use Rattle.pos.specs.Skim.{Checking, sought};
 use grammar::Cursor;
+use position_table::Checked;
+use position_table::Counted;
+use position_table::Encoded;
+use position_table::Resolved;
+use position_table::Site;
 use reading::ReadSite;
 use refusal::PositionsFault;
 use refusal::Refusal;
@@ -17,34 +22,6 @@ mod encoding;
 mod reading;
 mod skim;
 mod stages;
-
-// A place in a source file, and the address that it is recorded for.
-pub struct Site {
-    pub address: u32,
-    pub line: u32,
-    pub column: u32,
-}
-
-pub enum Checked {
-    Sound,
-    Refused(Refusal),
-}
-
-pub enum Counted {
-    Entries(u32),
-    Refused(Refusal),
-}
-
-pub enum Resolved {
-    At { line: u32, column: u32 },
-    Nothing,
-}
-
-// How many bytes were written, or why none was.
-pub enum Encoded {
-    Done { size: usize },
-    Refused(Refusal),
-}
 
 // The site recorded for an address, if the table has one. A malformed table also reads as none: resolving happens while
 // an error is reported, and must not replace it.

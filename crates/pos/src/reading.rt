@@ -1,11 +1,11 @@
 // How an entry is read: three numbers, and the address that the step reaches.
 ghost use mathlib.Core.Path.{_≡_};
 ghost use Rattle.varint.specs.Answers.{indexIs};
-ghost use Rattle.pos.specs.Table.{field};
+ghost use Rattle.position_table.specs.Table.{field};
 ghost use Rattle.pos.specs.Steps.{inTableOf, siteIs, placed, reachOf, entryAt};
-use crate::Site;
 use crate::skim;
 use grammar::Cursor;
+use position_table::Site;
 use refusal::PositionsFault;
 use refusal::Refusal;
 use varint::ReadIndex;

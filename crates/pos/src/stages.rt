@@ -4,11 +4,11 @@ ghost use mathlib.Core.Path.{_≡_};
 ghost use lib.ListN.{length};
 ghost use Rattle.pos.specs.Passes.{unmeasured};
 ghost use Rattle.pos.specs.Stages as stages;
-use crate::Encoded;
-use crate::Site;
 use crate::encoding;
 use crate::encoding::Measured;
 use crate::encoding::Place;
+use position_table::Encoded;
+use position_table::Site;
 use refusal::Refusal;
 
 // What the next site is for: it is measured, it is written and the answer is known, or nothing is done with it.

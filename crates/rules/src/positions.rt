@@ -4,7 +4,7 @@ ghost use Prim.Native.Nat.{_+_, _≤_};
 ghost use lib.ListN.{length};
 ghost use Rattle.model.specs.Rules as definition;
 use grammar::Span;
-use pos::Checked;
+use position_table::Checked;
 
 pub fn sound_table(text: &[u8], span: Span) -> bool
     requires { ⌜ span .start + span .size ≤ length (now text) ⌝ }

@@ -9,8 +9,8 @@ use Rattle.grammar.specs.declared.Cursor.{Cursor}
 use Rattle.grammar.specs.declared.Span.{Span}
 use Rattle.grammar.specs.Outcome.{Outcome, got, refused, Parser, pure, _>>=_, _>>_}
 use Rattle.grammar.specs.Combinators.{if_then_else_, byte, fixed, Text, textAt, check}
-use Rattle.pos.specs.declared.Checked.{Checked}
-use Rattle.pos.specs.Table.{checked}
+use Rattle.position_table.specs.declared.Checked.{Checked}
+use Rattle.position_table.specs.Table.{checked}
 use Rattle.varint.specs.declared.ReadNumber.{ReadNumber}
 use Rattle.varint.specs.Answers.{numberIs}
 use Rattle.format.specs.declared.records.NameIndex.{NameIndex}

@@ -9,7 +9,7 @@ ghost use Rattle.sections.specs.Answers.{positionsSound};
 use fields::ReadText;
 use grammar::Cursor;
 use grammar::Span;
-use pos::Checked;
+use position_table::Checked;
 
 pub fn positions(s: &[u8], c: Cursor) -> ReadText
     ensures { λ r. ⌜ definition.positions (now (s .entry)) c ≡ textIs (now (s .entry)) r ⌝ }

@@ -10,8 +10,8 @@ use lib.Dec.{ltb, eqb}
 use lib.ListN.{length, take}
 use Rattle.grammar.specs.declared.Span.{Span}
 use Rattle.grammar.specs.Combinators.{Each}
-use Rattle.pos.specs.declared.Checked.{Checked}
-use Rattle.pos.specs.Table.{checked}
+use Rattle.position_table.specs.declared.Checked.{Checked}
+use Rattle.position_table.specs.Table.{checked}
 use Rattle.format.specs.Artifact as A
 use Rattle.format.specs.File.{scalar}
 use Rattle.rows.specs.Back as B

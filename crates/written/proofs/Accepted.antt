@@ -13,8 +13,8 @@ use Rattle.grammar.specs.declared.Cursor.{Cursor}
 use Rattle.grammar.specs.Outcome.{start, got, Parser, _>>=_, _>>_}
 use Rattle.grammar.specs.Combinators.{if_then_else_, Text}
 use Rattle.grammar.proofs.RoundTrip.{itself}
-use Rattle.pos.specs.declared.Checked.{Checked}
-use Rattle.pos.specs.Table.{checked}
+use Rattle.position_table.specs.declared.Checked.{Checked}
+use Rattle.position_table.specs.Table.{checked}
 use Rattle.tables.specs.Table.{With, countItems}
 use Rattle.format.specs.Artifact as A
 use Rattle.format.specs.File as definition

@@ -11,8 +11,8 @@ use Rattle.grammar.specs.Outcome.{Parser, pure, _>>=_}
 use Rattle.grammar.specs.Combinators.{if_then_else_, Text, text}
 use Rattle.grammar.specs.RoundTrip.{Gives}
 use Rattle.grammar.proofs.RoundTrip.{gives-pure, gives-bind, gives-nothing, gives-taking}
-use Rattle.pos.specs.declared.Checked.{Checked}
-use Rattle.pos.specs.Table.{checked}
+use Rattle.position_table.specs.declared.Checked.{Checked}
+use Rattle.position_table.specs.Table.{checked}
 use Rattle.format.specs.File as definition
 use Rattle.written.specs.Meaning.{meanText}
 use Rattle.written.specs.Put.{putBytes}

@@ -12,7 +12,7 @@ use Rattle.grammar.specs.Number.{shortest, shortestIn}
 use Rattle.grammar.proofs.RoundTrip.{itself}
 use Rattle.grammar.proofs.Shortest.{shortest-some}
 use Rattle.tables.specs.Table.{countItems}
-use Rattle.pos.specs.declared.Checked.{Checked}
+use Rattle.position_table.specs.declared.Checked.{Checked}
 use Rattle.format.specs.declared.records.OptionalPosition.{OptionalPosition}
 use Rattle.format.specs.declared.records.Literal.{Literal}
 use Rattle.format.specs.declared.records.ThisType.{ThisType}

@@ -11,8 +11,8 @@ use mir.Syntax.{w64}
 use mir.Val.{SFits}
 use Rattle.grammar.specs.Combinators.{Each}
 use Rattle.utf8.specs.Check.{isUtf8}
-use Rattle.pos.specs.declared.Checked.{Checked}
-use Rattle.pos.specs.Table.{checked}
+use Rattle.position_table.specs.declared.Checked.{Checked}
+use Rattle.position_table.specs.Table.{checked}
 use Rattle.tables.specs.Table.{With, countItems}
 use Rattle.format.specs.declared.records.NameIndex.{NameIndex}
 use Rattle.format.specs.declared.records.Chain.{Chain}

@@ -1,5 +1,5 @@
 -- The first number, or why there is none.
-use Rattle.pos.specs.Table.{counted}
+use Rattle.position_table.specs.Table.{counted}
 use borrow.Author.Needs.{needs}
 use Rattle.pos.proofs.count.Statement.{statement}
 use Rattle.pos.proofs.count.Tie as tie

@@ -41,18 +41,18 @@ use denote.Triple.Clauses.{ensured, lasts}
 use denote.Triple.Table.{entered, cited}
 use denote.Triple.Walked.{says, Stays, stay-none-slice, gave-slice, walkOf, goes-none-slice, goes-gave-slice, Walks, ends-at, walked, walk-meets}
 use denote.Exit.{yes}
-use Rattle.pos.specs.declared.Site.{Site}
-use Rattle.pos.specs.declared.Encoded.{Encoded}
+use Rattle.position_table.specs.declared.Site.{Site}
+use Rattle.position_table.specs.declared.Encoded.{Encoded}
 use Rattle.pos.specs.declared.stages.Stage.{Stage}
-use Rattle.pos.specs.Encode.{encoded, encodedBytes}
+use Rattle.position_table.specs.Encode.{encoded, encodedBytes}
 use Rattle.pos.specs.Passes.{unmeasured}
 use Rattle.pos.specs.Stages.{stageAfterAll, outAfterAll, openedOf, openedOut, answerOf}
 use Rattle.pos.proofs.Staged.{all, measuring, opens, answered}
 use Rattle.pos.proofs.Again.{LentAgain, lends-again, comes-back}
 use Rattle.pos.proofs.Values.{stage-val, IsStage, stage-told}
-use Rattle.pos.proofs.Site as T
-use Rattle.pos.proofs.Encoded as E
-use Rattle.pos.proofs.Encoded.Laws as E′
+use Rattle.position_table.proofs.Site as T
+use Rattle.position_table.proofs.Encoded as E
+use Rattle.position_table.proofs.Encoded.Laws as E′
 use Rattle.pos.proofs.stages.Stage as S
 use Rattle.pos.proofs.stages.Stage.Laws as S′
 use Rattle.pos.proofs.stages.begun as begun

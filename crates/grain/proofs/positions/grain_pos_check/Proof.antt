@@ -1,7 +1,7 @@
 -- The row of what the call answered.
 use mathlib.Core.Path.{_≡_, _∙_, ap}
 use Rattle.refusal.specs.declared.Row.{Row}
-use Rattle.pos.specs.Table.{checked}
+use Rattle.position_table.specs.Table.{checked}
 use Rattle.grain.specs.Positions.{valuesOf, checkedRow}
 use borrow.Author.Needs.{needs}
 use Rattle.grain.proofs.positions.grain_pos_check.Statement.{statement}

@@ -3,7 +3,7 @@ use Prim.Native.Nat.{_-_}
 use mathlib.Core.Path.{_≡_, _∙_}
 use native.Mathlib.Omega.{arith}
 use borrow.Author.Needs.{needs}
-use Rattle.pos.specs.Encode.{sitesOf}
+use Rattle.position_table.specs.Encode.{sitesOf}
 use Rattle.pos.proofs.Sites.{Within, site-within, sites-drop, Writing, writing-none, writing-more, writing-all}
 use Rattle.pos.proofs.encoding.write.Statement.{statement}
 use Rattle.pos.proofs.encoding.write.Tie as tie

@@ -1,5 +1,5 @@
 -- A short number, or what index answers, with a refusal as a table says it.
-use Rattle.pos.specs.Table.{field}
+use Rattle.position_table.specs.Table.{field}
 use borrow.Author.Needs.{needs}
 use Rattle.pos.proofs.reading.field.Statement.{statement}
 use Rattle.pos.proofs.reading.field.Tie as tie

@@ -48,14 +48,14 @@ use denote.Triple.Clauses.{ensured, lasts}
 use denote.Triple.Table.{entered, cited}
 use denote.Triple.Walked.{says, Stays, stay-none, stay-none-slice, stay-slice, walkOf, goes-none, goes-none-slice, goes-slice, Walks, ends-at, walked, walk-meets}
 use denote.Exit.{yes}
-use Rattle.pos.specs.declared.Site.{Site}
+use Rattle.position_table.specs.declared.Site.{Site}
 use Rattle.pos.specs.declared.stages.Stage.{Stage}
 use Rattle.pos.specs.Stages.{stageAfter, outAfter}
 use Rattle.pos.proofs.Staged.{Passing, passing-none, passing-more, passing-all}
 use Rattle.pos.proofs.Values.{stage-val, site-vals, site-val, IsStage, stage-told}
 use Rattle.pos.proofs.Again.{LentAgain, lends-again, comes-back}
-use Rattle.pos.proofs.Site as T
-use Rattle.pos.proofs.Site.Laws as T′
+use Rattle.position_table.proofs.Site as T
+use Rattle.position_table.proofs.Site.Laws as T′
 use Rattle.pos.proofs.stages.Stage as S
 use Rattle.pos.proofs.stages.Stage.Laws as S′
 use Rattle.pos.proofs.stages.step as step

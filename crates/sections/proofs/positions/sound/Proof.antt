@@ -3,7 +3,7 @@ use mathlib.Core.Path.{_∙_, ap, refl}
 use Prim.Native.Nat.{ℕ}
 use lib.ListN.{take, drop}
 use borrow.Author.Tests.{eq-eqb, ne-eqb}
-use Rattle.pos.specs.Table.{checked}
+use Rattle.position_table.specs.Table.{checked}
 use Rattle.utf8.proofs.Short.{whole-run}
 use borrow.Author.Needs.{needs}
 use Rattle.sections.proofs.positions.sound.Statement.{statement}

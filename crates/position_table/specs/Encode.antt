@@ -7,9 +7,9 @@ use lib.Dec.{leb, ltb, eqb}
 use Rattle.refusal.specs.declared.Refusal.{Refusal}
 use Rattle.grammar.specs.Combinators.{if_then_else_}
 use Rattle.grammar.specs.Number.{shortest}
-use Rattle.pos.specs.declared.Site.{Site}
-use Rattle.pos.specs.declared.Encoded.{Encoded}
-use Rattle.pos.specs.Table.{Previous, none, earlier}
+use Rattle.position_table.specs.declared.Site.{Site}
+use Rattle.position_table.specs.declared.Encoded.{Encoded}
+use Rattle.position_table.specs.Table.{Previous, none, earlier}
 
 -- sites held in three lists: as many as the shortest has
 unfoldable pub sitesOf : List ℕ → List ℕ → List ℕ → List Site

@@ -10,10 +10,10 @@ use Rattle.refusal.specs.Numbers.{rowOf}
 use Rattle.grammar.specs.Outcome.{start, Outcome, got, refused, Parser, after, pure, _>>=_, _>>_}
 use Rattle.grammar.specs.Combinators.{if_then_else_, check}
 use Rattle.grammar.specs.Number.{index}
-use Rattle.pos.specs.declared.Site.{Site}
-use Rattle.pos.specs.declared.Checked.{Checked}
-use Rattle.pos.specs.declared.Counted.{Counted}
-use Rattle.pos.specs.declared.Resolved.{Resolved}
+use Rattle.position_table.specs.declared.Site.{Site}
+use Rattle.position_table.specs.declared.Checked.{Checked}
+use Rattle.position_table.specs.declared.Counted.{Counted}
+use Rattle.position_table.specs.declared.Resolved.{Resolved}
 
 -- in a table a number that is cut short is truncated, and one that is too long or too wide is overflow
 abbrev pub inTable : {A : Type 0} → Outcome A → Outcome A
