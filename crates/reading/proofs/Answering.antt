@@ -1,14 +1,13 @@
 -- Everything that the steps promise comes to the contract of the whole.
-use Prim.Native.Nat.{ℕ, _/_, _≤_, _<_}
+use Prim.Native.Nat.{ℕ, _/_}
 use mathlib.Core.Path.{_≡_, refl, sym, _∙_, ap, subst}
 use mathlib.Core.Bool.{Bool, true, false}
 use mathlib.Core.List.{List, [], _∷_, map}
 use lib.ListN.{length, replicate}
 use lib.Dec.{ltb}
 use borrow.Author.Tests.{ltb-true, ltb-false}
-use Rattle.refusal.specs.declared.Refusal.{Refusal}
 use Rattle.grammar.specs.declared.Cursor.{Cursor}
-use Rattle.grammar.specs.Outcome.{start, Outcome, got, refused}
+use Rattle.grammar.specs.Outcome.{start, Outcome, got}
 use Rattle.grammar.specs.Combinators.{Text}
 use Rattle.tables.specs.declared.Listed.{Listed}
 use Rattle.tables.specs.declared.Nested.{Nested}
@@ -38,14 +37,14 @@ use Rattle.format.specs.declared.answer.Answer.{Answer}
 use Rattle.format.specs.declared.answer.Artifact.{Artifact}
 use Rattle.format.specs.declared.answer.Used.{Used}
 use Rattle.reading.specs.declared.steps.Place.{Place}
-use Rattle.reading.specs.Answer.{placesOf, outside, answerOf, filledAll, tablesAfter, Answered}
-use Rattle.reading.specs.Places.{placeOf, valueOr, topsOf, noHeader, noNames, noCounts, noText, noChunk, noUsed, noCases, usedOf, artifactOf, wordsOf, frontAll}
+use Rattle.reading.specs.Answer.{placesOf, outside, filledAll, Answered}
+use Rattle.reading.specs.Places.{placeOf, valueOr, topsOf, noHeader, noNames, noText, noChunk, usedOf, artifactOf, wordsOf, frontAll}
 use Rattle.reading.specs.Steps.{Step, headerFirst, endPlace}
-use Rattle.reading.proofs.Stepping.{at-refused, same-place, same-refusal}
+use Rattle.reading.proofs.Stepping.{at-refused, same-place}
 use Rattle.reading.proofs.Joining.{Told, Stepped}
 use Rattle.reading.proofs.Telling.{told-value, ListFact, told-listed, BothFact, told-nested, CasesFact, told-cases, NamesFact, told-names, ConstantsFact, told-constants, stepped-by}
 use Rattle.reading.proofs.Whole.{Steps, Facts, stepped, stays}
-use Rattle.reading.proofs.Behind.{both, words-used, storedAll, all-filled}
+use Rattle.reading.proofs.Behind.{both, words-used, storedAll, all-filled, all-cleared}
 use Rattle.reading.proofs.Final.{Final, accepted, refusal, within-limit, too-long}
 
 -- the span does not depend on the bytes
@@ -61,14 +60,6 @@ used-same : (s : List ℕ) (a : ReadNames) → valueOr noNames (namesIs [] a) .u
 used-same s (ReadNames.Got used blob next) = refl
 used-same s (ReadNames.Refused r) = refl
 
--- a table that was cleared after a step that kept its length
-pub record Cleared (entry between exit : List ℕ) : Type 0 where
-  pub kept : length between ≡ length entry
-  pub zeros : exit ≡ replicate (length between) 0
-
-cleared : {entry between exit : List ℕ} → Cleared entry between exit → exit ≡ replicate (length entry) 0
-cleared c = rw (← c .kept) (c .zeros)
-
 module _ (mask : ℕ) (s : List ℕ)
     (t1 t2 t3 t4 t5 t6 t7 t8 t9 t10 t11 t12 t13 : List ℕ)
     (x1 x2 x3 x4 x5 x6 x7 x8 x9 x10 x11 x12 x13 : List ℕ)
@@ -77,7 +68,10 @@ module _ (mask : ℕ) (s : List ℕ)
   abbrev entry : List (List ℕ)
   entry = t1 ∷ t2 ∷ t3 ∷ t4 ∷ t5 ∷ t6 ∷ t7 ∷ t8 ∷ t9 ∷ t10 ∷ t11 ∷ t12 ∷ t13 ∷ []
 
-  -- what the calls promise, in their order
+  abbrev between : List (List ℕ)
+  between = x1 ∷ x2 ∷ x3 ∷ x4 ∷ x5 ∷ x6 ∷ x7 ∷ x8 ∷ x9 ∷ x10 ∷ x11 ∷ x12 ∷ x13 ∷ []
+
+  -- what the calls promise, in their order, and that they keep the length of each table
   pub record Ran : Type 0 where
     pub r1 : headerFirst s ≡ headerIs h
     pub r2 : Step (placeOf (headerIs h)) (λ e. source ≡ ReadText.Refused e) (λ c. file.string s c ≡ textIs s source)
@@ -93,6 +87,19 @@ module _ (mask : ℕ) (s : List ℕ)
     pub r12 : Step (placeOf (nestedIs fs)) (λ e. code ≡ ReadText.Refused e) (λ c. file.bytes s c ≡ textIs s code)
     pub r13 : Step (placeOf (textIs s code)) (λ e. ps ≡ ReadText.Refused e) (λ c. file.positions s c ≡ textIs s ps)
     pub r14 : Step (placeOf (textIs s ps)) (λ e. last ≡ Place.Refused e) (λ c. last ≡ endPlace s c)
+    pub k1 : length x1 ≡ length t1
+    pub k2 : length x2 ≡ length t2
+    pub k3 : length x3 ≡ length t3
+    pub k4 : length x4 ≡ length t4
+    pub k5 : length x5 ≡ length t5
+    pub k6 : length x6 ≡ length t6
+    pub k7 : length x7 ≡ length t7
+    pub k8 : length x8 ≡ length t8
+    pub k9 : length x9 ≡ length t9
+    pub k10 : length x10 ≡ length t10
+    pub k11 : length x11 ≡ length t11
+    pub k12 : length x12 ≡ length t12
+    pub k13 : length x13 ≡ length t13
 
   -- what is then known of each section that was got
   abbrev F1 : A.Header → Type 0
@@ -220,64 +227,45 @@ module _ (mask : ℕ) (s : List ℕ)
   abbrev used : Used
   used = usedOf (namesIs [] ns) (readIs cs) (listedIs ts) (listedIs os) (nestedIs ls) (switchedIs ws) (nestedIs us) (nestedIs fs)
 
-  abbrev gathered : Artifact
-  gathered =
-      artifactOf (headerIs h) (textIs [] source) (namesIs [] ns) (readIs cs) (chunkIs main) (textIs [] code) (textIs [] ps) used
+  abbrev gathered : Used → Artifact
+  gathered = artifactOf (headerIs h) (textIs [] source) (namesIs [] ns) (readIs cs) (chunkIs main) (textIs [] code) (textIs [] ps)
 
-  gathered-outside : (a : A.Artifact) → Known a → gathered ≡ outside a
+  gathered-outside : (a : A.Artifact) → Known a → gathered used ≡ outside a
   gathered-outside a f =
       rw (span-same s source, span-same s code, span-same s ps, blob-same s ns, used-same s ns, f .f1, f .f2, f .f3 .0, f .f4 .0, f .f5 .0, f .f6 .0, f .f7 .0 .0, f .f8 .0 .0 .0, f .f9 .0 .0, f .f10, f .f11 .0 .0, f .f12, f .f13)
 
-  tables-stored : (a : A.Artifact) → Known a → x1 ∷ x2 ∷ x3 ∷ x4 ∷ x5 ∷ x6 ∷ x7 ∷ x8 ∷ x9 ∷ x10 ∷ x11 ∷ x12 ∷ x13 ∷ [] ≡ storedAll entry (tablesOf a)
+  tables-stored : (a : A.Artifact) → Known a → between ≡ storedAll entry (tablesOf a)
   tables-stored a f =
       both (f .f3 .1) (both (f .f4 .1) (both (f .f5 .1) (both (f .f6 .1) (both (f .f7 .0 .1) (both (f .f7 .1)
       (both (f .f8 .0 .0 .1) (both (f .f8 .0 .1) (both (f .f8 .1) (both (f .f9 .0 .1) (both (f .f9 .1) (both (f .f11 .0 .1) (both (f .f11 .1) refl))))))))))))
 
-  tables-filled : (a : A.Artifact) → Known a → frontAll (wordsOf used) (x1 ∷ x2 ∷ x3 ∷ x4 ∷ x5 ∷ x6 ∷ x7 ∷ x8 ∷ x9 ∷ x10 ∷ x11 ∷ x12 ∷ x13 ∷ []) ≡ filledAll entry (tablesOf a)
+  tables-filled : (a : A.Artifact) → Known a → frontAll (wordsOf used) between ≡ filledAll entry (tablesOf a)
   tables-filled a f =
-      ap (λ o. frontAll (wordsOf (o .used)) (x1 ∷ x2 ∷ x3 ∷ x4 ∷ x5 ∷ x6 ∷ x7 ∷ x8 ∷ x9 ∷ x10 ∷ x11 ∷ x12 ∷ x13 ∷ [])) (gathered-outside a f)
+      ap (λ o. frontAll (wordsOf (o .used)) between) (gathered-outside a f)
       ∙ ap (frontAll (wordsOf (outside a .used))) (tables-stored a f)
       ∙ ap (λ words. frontAll words (storedAll entry (tablesOf a))) (words-used a)
       ∙ all-filled entry (tablesOf a)
 
-  -- at the end of the file, once what stands behind the rows is cleared
-  pub at-last : Ran → {c : Cursor} → last ≡ Place.At c → {counts : Used} → counts ≡ used → (exit : List (List ℕ)) → exit ≡ frontAll (wordsOf counts) (x1 ∷ x2 ∷ x3 ∷ x4 ∷ x5 ∷ x6 ∷ x7 ∷ x8 ∷ x9 ∷ x10 ∷ x11 ∷ x12 ∷ x13 ∷ []) →
-      (answer : Answer) → answer ≡ Answer.Accepted gathered → Answered mask s entry exit answer
-  at-last r e same exit left answer is = go (final r)
+  lengths : Ran → map length between ≡ map length entry
+  lengths r =
+      both (r .k1) (both (r .k2) (both (r .k3) (both (r .k4) (both (r .k5) (both (r .k6) (both (r .k7) (both (r .k8)
+      (both (r .k9) (both (r .k10) (both (r .k11) (both (r .k12) (both (r .k13) refl))))))))))))
+
+  -- at the end, once what stands behind the rows that stay is cleared
+  pub at-end : Ran → {counts : Used} → counts ≡ used → {kept : Used} → Step last (λ _. wordsOf kept ≡ replicate 13 0) (λ _. kept ≡ counts) → {exit : List (List ℕ)} → exit ≡ frontAll (wordsOf kept) between →
+      {artifact : Artifact} → artifact ≡ gathered kept → {answer : Answer} → Step last (λ e. answer ≡ Answer.Refused e) (λ _. answer ≡ Answer.Accepted artifact) →
+      Answered mask s entry exit answer
+  at-end r same {kept} stay {exit} left is {answer} told = go (final r)
     where
       go : Final Known (file.read (placesOf entry) mask s) last → Answered mask s entry exit answer
       go (accepted a c o p f) =
+          let all = stay .goes c p ∙ same in
           record {
-            result = is ∙ rw (o, gathered-outside a f);
-            tables = left ∙ ap (λ u. frontAll (wordsOf u) (x1 ∷ x2 ∷ x3 ∷ x4 ∷ x5 ∷ x6 ∷ x7 ∷ x8 ∷ x9 ∷ x10 ∷ x11 ∷ x12 ∷ x13 ∷ [])) same ∙ rw o (tables-filled a f);
+            result = told .goes c p ∙ rw (o, is, all) (ap Answer.Accepted (gathered-outside a f));
+            tables = left ∙ rw (o, all) (tables-filled a f);
           }
-      go (refusal q o p) = absurd (at-refused e p)
-
-  -- at a refusal, once the tables are cleared
-  module _ (z1 z2 z3 z4 z5 z6 z7 z8 z9 z10 z11 z12 z13 : List ℕ) where
-    pub record AllCleared : Type 0 where
-      pub c1 : Cleared t1 x1 z1
-      pub c2 : Cleared t2 x2 z2
-      pub c3 : Cleared t3 x3 z3
-      pub c4 : Cleared t4 x4 z4
-      pub c5 : Cleared t5 x5 z5
-      pub c6 : Cleared t6 x6 z6
-      pub c7 : Cleared t7 x7 z7
-      pub c8 : Cleared t8 x8 z8
-      pub c9 : Cleared t9 x9 z9
-      pub c10 : Cleared t10 x10 z10
-      pub c11 : Cleared t11 x11 z11
-      pub c12 : Cleared t12 x12 z12
-      pub c13 : Cleared t13 x13 z13
-
-    pub at-refusal : Ran → AllCleared → {q : Refusal} → last ≡ Place.Refused q → (answer : Answer) → answer ≡ Answer.Refused q →
-        Answered mask s entry (z1 ∷ z2 ∷ z3 ∷ z4 ∷ z5 ∷ z6 ∷ z7 ∷ z8 ∷ z9 ∷ z10 ∷ z11 ∷ z12 ∷ z13 ∷ []) answer
-    at-refusal r zs {q} e answer is = go (final r)
-      where
-        all-zero : z1 ∷ z2 ∷ z3 ∷ z4 ∷ z5 ∷ z6 ∷ z7 ∷ z8 ∷ z9 ∷ z10 ∷ z11 ∷ z12 ∷ z13 ∷ [] ≡ map (λ t. replicate (length t) 0) entry
-        all-zero =
-            (both (cleared (zs .c1)) (both (cleared (zs .c2)) (both (cleared (zs .c3)) (both (cleared (zs .c4)) (both (cleared (zs .c5)) (both (cleared (zs .c6)) (both (cleared (zs .c7)) (both (cleared (zs .c8)) (both (cleared (zs .c9)) (both (cleared (zs .c10)) (both (cleared (zs .c11)) (both (cleared (zs .c12)) (both (cleared (zs .c13)) refl)))))))))))))
-
-        go : Final Known (file.read (placesOf entry) mask s) last → Answered mask s entry (z1 ∷ z2 ∷ z3 ∷ z4 ∷ z5 ∷ z6 ∷ z7 ∷ z8 ∷ z9 ∷ z10 ∷ z11 ∷ z12 ∷ z13 ∷ []) answer
-        go (accepted a c o p f) = absurd (at-refused p e)
-        go (refusal p o f) = record { result = is ∙ rw (o, same-refusal e f); tables = rw o all-zero }
+      go (refusal q o p) =
+          record {
+            result = told .stops q p ∙ rw o;
+            tables = left ∙ ap (λ words. frontAll words between) (stay .stops q p) ∙ all-cleared between ∙ rw o (ap (map (λ n. replicate n 0)) (lengths r));
+          }

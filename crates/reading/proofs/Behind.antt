@@ -1,9 +1,9 @@
 -- What stands behind the rows, once it is cleared: as many words are in front as the rows have, and so each table is a cleared one filled.
-use Prim.Native.Nat.{ℕ, _+_, _*_}
+use Prim.Native.Nat.{ℕ, _+_, _-_, _*_}
 use mathlib.Core.Path.{_≡_, refl, sym}
 use mathlib.Core.List.{List, [], _∷_, map, foldl}
 use native.Mathlib.Omega.{arith}
-use lib.ListN.{length}
+use lib.ListN.{length, replicate}
 use lib.Seq.{sets}
 use Rattle.grammar.specs.Combinators.{Text}
 use Rattle.tables.specs.Table.{rows}
@@ -65,3 +65,8 @@ all-filled [] [] = refl
 all-filled [] (ws ∷ words) = refl
 all-filled (t ∷ tables) [] = refl
 all-filled (t ∷ tables) (ws ∷ words) = both (front-filled t ws) (all-filled tables words)
+
+-- no rows stay: every word is cleared
+pub all-cleared : (tables : List (List ℕ)) → frontAll (replicate (length tables) 0) tables ≡ map (λ n. replicate n 0) (map length tables)
+all-cleared [] = refl
+all-cleared (t ∷ tables) = let e : length t - 0 ≡ length t = omega arith in both (rw e) (all-cleared tables)

@@ -1,17 +1,22 @@
 // What stands outside the tables, collected from the answers of the sections; and what stands behind their rows, cleared.
 ghost use mathlib.Core.List.{[], _∷_};
 ghost use mathlib.Core.Path.{_≡_};
+ghost use lib.ListN.{replicate};
 ghost use Rattle.fields.specs.Answers.{textIs, chunkIs};
 ghost use Rattle.tables.specs.Table.{listedIs, nestedIs};
 ghost use Rattle.constants.specs.Kept.{readIs};
 ghost use Rattle.switches.specs.Answers.{switchedIs};
 ghost use Rattle.sections.specs.Answers.{headerIs};
 ghost use Rattle.sections.specs.Names.{namesIs};
+ghost use Rattle.format.specs.declared.answer.Answer.{Answer as Whole};
 ghost use Rattle.reading.specs.Places.{usedOf, artifactOf, wordsOf, frontAll};
+ghost use Rattle.reading.specs.Steps.{Step};
 use crate::parts;
+use crate::steps::Place;
 use constants::ReadConstants;
 use fields::ReadChunk;
 use fields::ReadText;
+use format::answer::Answer;
 use format::answer::Artifact;
 use format::answer::Used;
 use sections::header::ReadHeader;
@@ -70,6 +75,39 @@ pub fn artifact(
         code: parts::span(code),
         positions: parts::span(positions),
         used,
+    }
+}
+
+// The rows that stay: none of a file that was refused.
+pub fn kept(last: Place, used: Used) -> Used
+    ensures { λ r. ⌜ Step last (λ _. wordsOf r ≡ replicate 13 0) (λ _. r ≡ used) ⌝ }
+{
+    match last {
+        Place::At(_) => used,
+        Place::Refused(_) => Used {
+            names: 0,
+            constants: 0,
+            tokens: 0,
+            assigns: 0,
+            chains: 0,
+            steps: 0,
+            switches: 0,
+            cases: 0,
+            ranges: 0,
+            customs: 0,
+            inputs: 0,
+            functions: 0,
+            parameters: 0,
+        },
+    }
+}
+
+pub fn answer(last: Place, artifact: Artifact) -> Answer
+    ensures { λ r. ⌜ Step last (λ e. r ≡ Whole.Refused e) (λ _. r ≡ Whole.Accepted artifact) ⌝ }
+{
+    match last {
+        Place::At(_) => Answer::Accepted(artifact),
+        Place::Refused(r) => Answer::Refused(r),
     }
 }
 

@@ -3,7 +3,6 @@ ghost use mathlib.Core.List.{[], _∷_};
 ghost use Rattle.reading.specs.Answer.{Answered};
 use crate::collect;
 use crate::steps as section;
-use crate::steps::Place;
 use format::answer::Answer;
 
 // Thirteen tables of whole rows are lent, whatever they hold. An acceptance leaves zeros behind the rows, a refusal zeros alone.
@@ -39,42 +38,26 @@ pub fn read(
     let fs = section::functions(bytes, main, functions, parameters);
     let code = section::code(bytes, fs);
     let ps = section::positions(bytes, code);
-    match section::end(bytes, ps) {
-        Place::At(_) => {
-            let used = collect::used(ns, cs, ts, os, ls, ws, us, fs);
-            collect::clear_behind(
-                used,
-                names,
-                constants,
-                tokens,
-                assigns,
-                chains,
-                steps,
-                switches,
-                cases,
-                ranges,
-                customs,
-                inputs,
-                functions,
-                parameters,
-            );
-            Answer::Accepted(collect::artifact(h, source, ns, cs, main, code, ps, used))
-        }
-        Place::Refused(r) => {
-            tables::clear(names);
-            tables::clear(constants);
-            tables::clear(tokens);
-            tables::clear(assigns);
-            tables::clear(chains);
-            tables::clear(steps);
-            tables::clear(switches);
-            tables::clear(cases);
-            tables::clear(ranges);
-            tables::clear(customs);
-            tables::clear(inputs);
-            tables::clear(functions);
-            tables::clear(parameters);
-            Answer::Refused(r)
-        }
-    }
+    let last = section::end(bytes, ps);
+    let used = collect::kept(last, collect::used(ns, cs, ts, os, ls, ws, us, fs));
+    collect::clear_behind(
+        used,
+        names,
+        constants,
+        tokens,
+        assigns,
+        chains,
+        steps,
+        switches,
+        cases,
+        ranges,
+        customs,
+        inputs,
+        functions,
+        parameters,
+    );
+    collect::answer(
+        last,
+        collect::artifact(h, source, ns, cs, main, code, ps, used),
+    )
 }

@@ -1,11 +1,20 @@
 -- The calls, from the header to the end, are the steps of the definition.
-use mathlib.Core.Path.{_∙_, refl}
-use Rattle.reading.proofs.Answering.{Ran, at-last, at-refusal}
+use mathlib.Core.Path.{_∙_}
+use Rattle.reading.proofs.Answering.{Ran, at-end}
 use borrow.Author.Needs.{needs}
 use Rattle.reading.proofs.read.read.Statement.{statement}
 use Rattle.reading.proofs.read.read.Tie as tie
 
 -- where each call stands, from the last one
+abbrev at-clear : tie.After-answer → tie.After-clear-behind
+at-clear c = c .before .before .before .before .before .before .before .before .before .before .before .before .before .before .before .before .before .before .before .before .before .before .before .before .before .before .before .before
+
+abbrev at-kept : tie.After-answer → tie.After-kept
+at-kept c = at-clear c .before .before .before .before .before .before .before .before .before .before .before .before .before .before
+
+abbrev at-last : tie.After-answer → tie.After-end
+at-last c = at-kept c .before .before
+
 abbrev at-positions : tie.After-end → tie.After-positions
 at-positions e = e .before
 
@@ -66,6 +75,19 @@ ran e =
       r12 = at-code e .code .ensures;
       r13 = at-positions e .positions .ensures;
       r14 = e .end .ensures;
+      k1 = at-names e .names .kept .1 .1 .0;
+      k2 = at-constants e .constants .kept .1 .1 .0;
+      k3 = at-tokens e .tokens .kept .1 .1 .0;
+      k4 = at-assigns e .assigns .kept .1 .1 .0;
+      k5 = at-chains e .chains .kept .1 .1 .1 .0;
+      k6 = at-chains e .chains .kept .1 .1 .1 .1 .0;
+      k7 = at-switches e .switches .kept .1 .1 .1 .0;
+      k8 = at-switches e .switches .kept .1 .1 .1 .1 .0;
+      k9 = at-switches e .switches .kept .1 .1 .1 .1 .1 .0;
+      k10 = at-customs e .customs .kept .1 .1 .0;
+      k11 = at-customs e .customs .kept .1 .1 .1 .0;
+      k12 = at-functions e .functions .kept .1 .1 .0;
+      k13 = at-functions e .functions .kept .1 .1 .1 .0;
     }
 
 header-requires : tie.Need-header-requires
@@ -110,11 +132,11 @@ positions-requires c κs = search needs
 end-requires : tie.Need-end-requires
 end-requires c κs = search needs
 
-enum-told : tie.Need-enum-told
-enum-told c = search needs
-
 used-requires : tie.Need-used-requires
 used-requires c κs = search needs
+
+kept-requires : tie.Need-kept-requires
+kept-requires c κs = search needs
 
 clear-behind-requires : tie.Need-clear-behind-requires
 clear-behind-requires c κs = search needs
@@ -122,131 +144,51 @@ clear-behind-requires c κs = search needs
 artifact-requires : tie.Need-artifact-requires
 artifact-requires c κs = search needs
 
-enum-known-r : tie.Need-enum-known-r
-enum-known-r c = search needs
-
-clear-requires : tie.Need-clear-requires
-clear-requires c κs = search needs
-
-clear-requires-2 : tie.Need-clear-requires-2
-clear-requires-2 c κs = search needs
-
-clear-requires-3 : tie.Need-clear-requires-3
-clear-requires-3 c κs = search needs
-
-clear-requires-4 : tie.Need-clear-requires-4
-clear-requires-4 c κs = search needs
-
-clear-requires-5 : tie.Need-clear-requires-5
-clear-requires-5 c κs = search needs
-
-clear-requires-6 : tie.Need-clear-requires-6
-clear-requires-6 c κs = search needs
-
-clear-requires-7 : tie.Need-clear-requires-7
-clear-requires-7 c κs = search needs
-
-clear-requires-8 : tie.Need-clear-requires-8
-clear-requires-8 c κs = search needs
-
-clear-requires-9 : tie.Need-clear-requires-9
-clear-requires-9 c κs = search needs
-
-clear-requires-10 : tie.Need-clear-requires-10
-clear-requires-10 c κs = search needs
-
-clear-requires-11 : tie.Need-clear-requires-11
-clear-requires-11 c κs = search needs
-
-clear-requires-12 : tie.Need-clear-requires-12
-clear-requires-12 c κs = search needs
-
-clear-requires-13 : tie.Need-clear-requires-13
-clear-requires-13 c κs = search needs
+answer-requires : tie.Need-answer-requires
+answer-requires c κs = search needs
 
 same-length : tie.Need-same-length
-same-length c = c .before .before .before .before .before .before .before .before .before .before .before .before .before .before .before .before .before .before .before .before .before .before .before .before .before .before .before .clear-behind .kept .1 .0 ∙ at-names (c .before .before .before .before .before .before .before .before .before .before .before .before .before .before .before .before .before .before .before .before .before .before .before .before .before .before .before .before .before .before .before .before .before .before .before .before .before .before .before .before .before .before .before .before) .names .kept .1 .1 .0
+same-length c = at-clear c .clear-behind .kept .1 .0 ∙ ran (at-last c) .k1
 
 same-length-2 : tie.Need-same-length-2
-same-length-2 c = c .before .before .before .before .before .before .before .before .before .before .before .before .before .before .before .before .before .before .before .before .before .before .before .before .before .before .before .clear-behind .kept .1 .1 .0 ∙ at-constants (c .before .before .before .before .before .before .before .before .before .before .before .before .before .before .before .before .before .before .before .before .before .before .before .before .before .before .before .before .before .before .before .before .before .before .before .before .before .before .before .before .before .before .before .before) .constants .kept .1 .1 .0
+same-length-2 c = at-clear c .clear-behind .kept .1 .1 .0 ∙ ran (at-last c) .k2
 
 same-length-3 : tie.Need-same-length-3
-same-length-3 c = c .before .before .before .before .before .before .before .before .before .before .before .before .before .before .before .before .before .before .before .before .before .before .before .before .before .before .before .clear-behind .kept .1 .1 .1 .0 ∙ at-tokens (c .before .before .before .before .before .before .before .before .before .before .before .before .before .before .before .before .before .before .before .before .before .before .before .before .before .before .before .before .before .before .before .before .before .before .before .before .before .before .before .before .before .before .before .before) .tokens .kept .1 .1 .0
+same-length-3 c = at-clear c .clear-behind .kept .1 .1 .1 .0 ∙ ran (at-last c) .k3
 
 same-length-4 : tie.Need-same-length-4
-same-length-4 c = c .before .before .before .before .before .before .before .before .before .before .before .before .before .before .before .before .before .before .before .before .before .before .before .before .before .before .before .clear-behind .kept .1 .1 .1 .1 .0 ∙ at-assigns (c .before .before .before .before .before .before .before .before .before .before .before .before .before .before .before .before .before .before .before .before .before .before .before .before .before .before .before .before .before .before .before .before .before .before .before .before .before .before .before .before .before .before .before .before) .assigns .kept .1 .1 .0
+same-length-4 c = at-clear c .clear-behind .kept .1 .1 .1 .1 .0 ∙ ran (at-last c) .k4
 
 same-length-5 : tie.Need-same-length-5
-same-length-5 c = c .before .before .before .before .before .before .before .before .before .before .before .before .before .before .before .before .before .before .before .before .before .before .before .before .before .before .before .clear-behind .kept .1 .1 .1 .1 .1 .0 ∙ at-chains (c .before .before .before .before .before .before .before .before .before .before .before .before .before .before .before .before .before .before .before .before .before .before .before .before .before .before .before .before .before .before .before .before .before .before .before .before .before .before .before .before .before .before .before .before) .chains .kept .1 .1 .1 .0
+same-length-5 c = at-clear c .clear-behind .kept .1 .1 .1 .1 .1 .0 ∙ ran (at-last c) .k5
 
 same-length-6 : tie.Need-same-length-6
-same-length-6 c = c .before .before .before .before .before .before .before .before .before .before .before .before .before .before .before .before .before .before .before .before .before .before .before .before .before .before .before .clear-behind .kept .1 .1 .1 .1 .1 .1 .0 ∙ at-chains (c .before .before .before .before .before .before .before .before .before .before .before .before .before .before .before .before .before .before .before .before .before .before .before .before .before .before .before .before .before .before .before .before .before .before .before .before .before .before .before .before .before .before .before .before) .chains .kept .1 .1 .1 .1 .0
+same-length-6 c = at-clear c .clear-behind .kept .1 .1 .1 .1 .1 .1 .0 ∙ ran (at-last c) .k6
 
 same-length-7 : tie.Need-same-length-7
-same-length-7 c = c .before .before .before .before .before .before .before .before .before .before .before .before .before .before .before .before .before .before .before .before .before .before .before .before .before .before .before .clear-behind .kept .1 .1 .1 .1 .1 .1 .1 .0 ∙ at-switches (c .before .before .before .before .before .before .before .before .before .before .before .before .before .before .before .before .before .before .before .before .before .before .before .before .before .before .before .before .before .before .before .before .before .before .before .before .before .before .before .before .before .before .before .before) .switches .kept .1 .1 .1 .0
+same-length-7 c = at-clear c .clear-behind .kept .1 .1 .1 .1 .1 .1 .1 .0 ∙ ran (at-last c) .k7
 
 same-length-8 : tie.Need-same-length-8
-same-length-8 c = c .before .before .before .before .before .before .before .before .before .before .before .before .before .before .before .before .before .before .before .before .before .before .before .before .before .before .before .clear-behind .kept .1 .1 .1 .1 .1 .1 .1 .1 .0 ∙ at-switches (c .before .before .before .before .before .before .before .before .before .before .before .before .before .before .before .before .before .before .before .before .before .before .before .before .before .before .before .before .before .before .before .before .before .before .before .before .before .before .before .before .before .before .before .before) .switches .kept .1 .1 .1 .1 .0
+same-length-8 c = at-clear c .clear-behind .kept .1 .1 .1 .1 .1 .1 .1 .1 .0 ∙ ran (at-last c) .k8
 
 same-length-9 : tie.Need-same-length-9
-same-length-9 c = c .before .before .before .before .before .before .before .before .before .before .before .before .before .before .before .before .before .before .before .before .before .before .before .before .before .before .before .clear-behind .kept .1 .1 .1 .1 .1 .1 .1 .1 .1 .0 ∙ at-switches (c .before .before .before .before .before .before .before .before .before .before .before .before .before .before .before .before .before .before .before .before .before .before .before .before .before .before .before .before .before .before .before .before .before .before .before .before .before .before .before .before .before .before .before .before) .switches .kept .1 .1 .1 .1 .1 .0
+same-length-9 c = at-clear c .clear-behind .kept .1 .1 .1 .1 .1 .1 .1 .1 .1 .0 ∙ ran (at-last c) .k9
 
 same-length-10 : tie.Need-same-length-10
-same-length-10 c = c .before .before .before .before .before .before .before .before .before .before .before .before .before .before .before .before .before .before .before .before .before .before .before .before .before .before .before .clear-behind .kept .1 .1 .1 .1 .1 .1 .1 .1 .1 .1 .0 ∙ at-customs (c .before .before .before .before .before .before .before .before .before .before .before .before .before .before .before .before .before .before .before .before .before .before .before .before .before .before .before .before .before .before .before .before .before .before .before .before .before .before .before .before .before .before .before .before) .customs .kept .1 .1 .0
+same-length-10 c = at-clear c .clear-behind .kept .1 .1 .1 .1 .1 .1 .1 .1 .1 .1 .0 ∙ ran (at-last c) .k10
 
 same-length-11 : tie.Need-same-length-11
-same-length-11 c = c .before .before .before .before .before .before .before .before .before .before .before .before .before .before .before .before .before .before .before .before .before .before .before .before .before .before .before .clear-behind .kept .1 .1 .1 .1 .1 .1 .1 .1 .1 .1 .1 .0 ∙ at-customs (c .before .before .before .before .before .before .before .before .before .before .before .before .before .before .before .before .before .before .before .before .before .before .before .before .before .before .before .before .before .before .before .before .before .before .before .before .before .before .before .before .before .before .before .before) .customs .kept .1 .1 .1 .0
+same-length-11 c = at-clear c .clear-behind .kept .1 .1 .1 .1 .1 .1 .1 .1 .1 .1 .1 .0 ∙ ran (at-last c) .k11
 
 same-length-12 : tie.Need-same-length-12
-same-length-12 c = c .before .before .before .before .before .before .before .before .before .before .before .before .before .before .before .before .before .before .before .before .before .before .before .before .before .before .before .clear-behind .kept .1 .1 .1 .1 .1 .1 .1 .1 .1 .1 .1 .1 .0 ∙ at-functions (c .before .before .before .before .before .before .before .before .before .before .before .before .before .before .before .before .before .before .before .before .before .before .before .before .before .before .before .before .before .before .before .before .before .before .before .before .before .before .before .before .before .before .before .before) .functions .kept .1 .1 .0
+same-length-12 c = at-clear c .clear-behind .kept .1 .1 .1 .1 .1 .1 .1 .1 .1 .1 .1 .1 .0 ∙ ran (at-last c) .k12
 
 same-length-13 : tie.Need-same-length-13
-same-length-13 c = c .before .before .before .before .before .before .before .before .before .before .before .before .before .before .before .before .before .before .before .before .before .before .before .before .before .before .before .clear-behind .kept .1 .1 .1 .1 .1 .1 .1 .1 .1 .1 .1 .1 .1 .0 ∙ at-functions (c .before .before .before .before .before .before .before .before .before .before .before .before .before .before .before .before .before .before .before .before .before .before .before .before .before .before .before .before .before .before .before .before .before .before .before .before .before .before .before .before .before .before .before .before) .functions .kept .1 .1 .1 .0
+same-length-13 c = at-clear c .clear-behind .kept .1 .1 .1 .1 .1 .1 .1 .1 .1 .1 .1 .1 .1 .0 ∙ ran (at-last c) .k13
 
 returns : tie.Need-returns
-returns c = at-last _ _ _ _ _ _ _ _ _ _ _ _ _ _ _ _ _ _ _ _ _ _ _ _ _ _ _ _ _ _ _ _ _ _ _ _ _ _ _ _ _ _ (ran (c .before .before .before .before .before .before .before .before .before .before .before .before .before .before .before .before .before .before .before .before .before .before .before .before .before .before .before .before .before .before .before .before .before .before .before .before .before .before .before .before .before .before .before .before)) (c .before .before .before .before .before .before .before .before .before .before .before .before .before .before .before .before .before .before .before .before .before .before .before .before .before .before .before .before .before .before .before .before .before .before .before .before .before .before .before .before .before .before .enum-told .given .1) (c .before .before .before .before .before .before .before .before .before .before .before .before .before .before .before .before .before .before .before .before .before .before .before .before .before .before .before .before .before .before .before .before .before .before .before .before .before .before .before .before .before .used .ensures) _ (c .before .before .before .before .before .before .before .before .before .before .before .before .before .before .before .before .before .before .before .before .before .before .before .before .before .before .before .clear-behind .ensures) _ (rw (c .artifact .ensures, c .before .before .before .before .before .before .before .before .before .before .before .before .before .before .before .before .before .before .before .before .before .before .before .before .before .before .before .before .before .before .before .before .before .before .before .before .before .before .before .before .before .used .ensures))
-
-same-length-14 : tie.Need-same-length-14
-same-length-14 c = c .before .before .before .before .before .before .before .before .before .before .before .before .before .before .before .before .before .before .before .before .before .before .before .before .before .before .before .before .before .before .before .before .before .before .before .before .before .before .before .before .before .before .before .before .before .before .before .before .before .before .clear .kept .0 ∙ (at-names (c .before .before .before .before .before .before .before .before .before .before .before .before .before .before .before .before .before .before .before .before .before .before .before .before .before .before .before .before .before .before .before .before .before .before .before .before .before .before .before .before .before .before .before .before .before .before .before .before .before .before .before .before .before .before .before) .names .kept .1 .1 .0)
-
-same-length-15 : tie.Need-same-length-15
-same-length-15 c = c .before .before .before .before .before .before .before .before .before .before .before .before .before .before .before .before .before .before .before .before .before .before .before .before .before .before .before .before .before .before .before .before .before .before .before .before .before .before .before .before .before .before .before .before .before .before .clear2 .kept .0 ∙ (at-constants (c .before .before .before .before .before .before .before .before .before .before .before .before .before .before .before .before .before .before .before .before .before .before .before .before .before .before .before .before .before .before .before .before .before .before .before .before .before .before .before .before .before .before .before .before .before .before .before .before .before .before .before .before .before .before .before) .constants .kept .1 .1 .0)
-
-same-length-16 : tie.Need-same-length-16
-same-length-16 c = c .before .before .before .before .before .before .before .before .before .before .before .before .before .before .before .before .before .before .before .before .before .before .before .before .before .before .before .before .before .before .before .before .before .before .before .before .before .before .before .before .before .before .clear3 .kept .0 ∙ (at-tokens (c .before .before .before .before .before .before .before .before .before .before .before .before .before .before .before .before .before .before .before .before .before .before .before .before .before .before .before .before .before .before .before .before .before .before .before .before .before .before .before .before .before .before .before .before .before .before .before .before .before .before .before .before .before .before .before) .tokens .kept .1 .1 .0)
-
-same-length-17 : tie.Need-same-length-17
-same-length-17 c = c .before .before .before .before .before .before .before .before .before .before .before .before .before .before .before .before .before .before .before .before .before .before .before .before .before .before .before .before .before .before .before .before .before .before .before .before .before .before .clear4 .kept .0 ∙ (at-assigns (c .before .before .before .before .before .before .before .before .before .before .before .before .before .before .before .before .before .before .before .before .before .before .before .before .before .before .before .before .before .before .before .before .before .before .before .before .before .before .before .before .before .before .before .before .before .before .before .before .before .before .before .before .before .before .before) .assigns .kept .1 .1 .0)
-
-same-length-18 : tie.Need-same-length-18
-same-length-18 c = c .before .before .before .before .before .before .before .before .before .before .before .before .before .before .before .before .before .before .before .before .before .before .before .before .before .before .before .before .before .before .before .before .before .before .clear5 .kept .0 ∙ (at-chains (c .before .before .before .before .before .before .before .before .before .before .before .before .before .before .before .before .before .before .before .before .before .before .before .before .before .before .before .before .before .before .before .before .before .before .before .before .before .before .before .before .before .before .before .before .before .before .before .before .before .before .before .before .before .before .before) .chains .kept .1 .1 .1 .0)
-
-same-length-19 : tie.Need-same-length-19
-same-length-19 c = c .before .before .before .before .before .before .before .before .before .before .before .before .before .before .before .before .before .before .before .before .before .before .before .before .before .before .before .before .before .before .clear6 .kept .0 ∙ (at-chains (c .before .before .before .before .before .before .before .before .before .before .before .before .before .before .before .before .before .before .before .before .before .before .before .before .before .before .before .before .before .before .before .before .before .before .before .before .before .before .before .before .before .before .before .before .before .before .before .before .before .before .before .before .before .before .before) .chains .kept .1 .1 .1 .1 .0)
-
-same-length-20 : tie.Need-same-length-20
-same-length-20 c = c .before .before .before .before .before .before .before .before .before .before .before .before .before .before .before .before .before .before .before .before .before .before .before .before .before .before .clear7 .kept .0 ∙ (at-switches (c .before .before .before .before .before .before .before .before .before .before .before .before .before .before .before .before .before .before .before .before .before .before .before .before .before .before .before .before .before .before .before .before .before .before .before .before .before .before .before .before .before .before .before .before .before .before .before .before .before .before .before .before .before .before .before) .switches .kept .1 .1 .1 .0)
-
-same-length-21 : tie.Need-same-length-21
-same-length-21 c = c .before .before .before .before .before .before .before .before .before .before .before .before .before .before .before .before .before .before .before .before .before .before .clear8 .kept .0 ∙ (at-switches (c .before .before .before .before .before .before .before .before .before .before .before .before .before .before .before .before .before .before .before .before .before .before .before .before .before .before .before .before .before .before .before .before .before .before .before .before .before .before .before .before .before .before .before .before .before .before .before .before .before .before .before .before .before .before .before) .switches .kept .1 .1 .1 .1 .0)
-
-same-length-22 : tie.Need-same-length-22
-same-length-22 c = c .before .before .before .before .before .before .before .before .before .before .before .before .before .before .before .before .before .before .clear9 .kept .0 ∙ (at-switches (c .before .before .before .before .before .before .before .before .before .before .before .before .before .before .before .before .before .before .before .before .before .before .before .before .before .before .before .before .before .before .before .before .before .before .before .before .before .before .before .before .before .before .before .before .before .before .before .before .before .before .before .before .before .before .before) .switches .kept .1 .1 .1 .1 .1 .0)
-
-same-length-23 : tie.Need-same-length-23
-same-length-23 c = c .before .before .before .before .before .before .before .before .before .before .before .before .before .before .clear10 .kept .0 ∙ (at-customs (c .before .before .before .before .before .before .before .before .before .before .before .before .before .before .before .before .before .before .before .before .before .before .before .before .before .before .before .before .before .before .before .before .before .before .before .before .before .before .before .before .before .before .before .before .before .before .before .before .before .before .before .before .before .before .before) .customs .kept .1 .1 .0)
-
-same-length-24 : tie.Need-same-length-24
-same-length-24 c = c .before .before .before .before .before .before .before .before .before .before .clear11 .kept .0 ∙ (at-customs (c .before .before .before .before .before .before .before .before .before .before .before .before .before .before .before .before .before .before .before .before .before .before .before .before .before .before .before .before .before .before .before .before .before .before .before .before .before .before .before .before .before .before .before .before .before .before .before .before .before .before .before .before .before .before .before) .customs .kept .1 .1 .1 .0)
-
-same-length-25 : tie.Need-same-length-25
-same-length-25 c = c .before .before .before .before .before .before .clear12 .kept .0 ∙ (at-functions (c .before .before .before .before .before .before .before .before .before .before .before .before .before .before .before .before .before .before .before .before .before .before .before .before .before .before .before .before .before .before .before .before .before .before .before .before .before .before .before .before .before .before .before .before .before .before .before .before .before .before .before .before .before .before .before) .functions .kept .1 .1 .0)
-
-same-length-26 : tie.Need-same-length-26
-same-length-26 c = c .before .before .clear13 .kept .0 ∙ (at-functions (c .before .before .before .before .before .before .before .before .before .before .before .before .before .before .before .before .before .before .before .before .before .before .before .before .before .before .before .before .before .before .before .before .before .before .before .before .before .before .before .before .before .before .before .before .before .before .before .before .before .before .before .before .before .before .before) .functions .kept .1 .1 .1 .0)
-
-returns-2 : tie.Need-returns-2
-returns-2 c = at-refusal _ _ _ _ _ _ _ _ _ _ _ _ _ _ _ _ _ _ _ _ _ _ _ _ _ _ _ _ _ _ _ _ _ _ _ _ _ _ _ _ _ _ _ _ _ _ _ _ _ _ _ _ _ _ _ (ran (c .before .before .before .before .before .before .before .before .before .before .before .before .before .before .before .before .before .before .before .before .before .before .before .before .before .before .before .before .before .before .before .before .before .before .before .before .before .before .before .before .before .before .before .before .before .before .before .before .before .before .before .before .before .before .before)) (record { c1 = record { kept = (at-names (c .before .before .before .before .before .before .before .before .before .before .before .before .before .before .before .before .before .before .before .before .before .before .before .before .before .before .before .before .before .before .before .before .before .before .before .before .before .before .before .before .before .before .before .before .before .before .before .before .before .before .before .before .before .before .before) .names .kept .1 .1 .0); zeros = c .before .before .before .before .before .before .before .before .before .before .before .before .before .before .before .before .before .before .before .before .before .before .before .before .before .before .before .before .before .before .before .before .before .before .before .before .before .before .before .before .before .before .before .before .before .before .before .before .before .before .clear .ensures }; c2 = record { kept = (at-constants (c .before .before .before .before .before .before .before .before .before .before .before .before .before .before .before .before .before .before .before .before .before .before .before .before .before .before .before .before .before .before .before .before .before .before .before .before .before .before .before .before .before .before .before .before .before .before .before .before .before .before .before .before .before .before .before) .constants .kept .1 .1 .0); zeros = c .before .before .before .before .before .before .before .before .before .before .before .before .before .before .before .before .before .before .before .before .before .before .before .before .before .before .before .before .before .before .before .before .before .before .before .before .before .before .before .before .before .before .before .before .before .before .clear2 .ensures }; c3 = record { kept = (at-tokens (c .before .before .before .before .before .before .before .before .before .before .before .before .before .before .before .before .before .before .before .before .before .before .before .before .before .before .before .before .before .before .before .before .before .before .before .before .before .before .before .before .before .before .before .before .before .before .before .before .before .before .before .before .before .before .before) .tokens .kept .1 .1 .0); zeros = c .before .before .before .before .before .before .before .before .before .before .before .before .before .before .before .before .before .before .before .before .before .before .before .before .before .before .before .before .before .before .before .before .before .before .before .before .before .before .before .before .before .before .clear3 .ensures }; c4 = record { kept = (at-assigns (c .before .before .before .before .before .before .before .before .before .before .before .before .before .before .before .before .before .before .before .before .before .before .before .before .before .before .before .before .before .before .before .before .before .before .before .before .before .before .before .before .before .before .before .before .before .before .before .before .before .before .before .before .before .before .before) .assigns .kept .1 .1 .0); zeros = c .before .before .before .before .before .before .before .before .before .before .before .before .before .before .before .before .before .before .before .before .before .before .before .before .before .before .before .before .before .before .before .before .before .before .before .before .before .before .clear4 .ensures }; c5 = record { kept = (at-chains (c .before .before .before .before .before .before .before .before .before .before .before .before .before .before .before .before .before .before .before .before .before .before .before .before .before .before .before .before .before .before .before .before .before .before .before .before .before .before .before .before .before .before .before .before .before .before .before .before .before .before .before .before .before .before .before) .chains .kept .1 .1 .1 .0); zeros = c .before .before .before .before .before .before .before .before .before .before .before .before .before .before .before .before .before .before .before .before .before .before .before .before .before .before .before .before .before .before .before .before .before .before .clear5 .ensures }; c6 = record { kept = (at-chains (c .before .before .before .before .before .before .before .before .before .before .before .before .before .before .before .before .before .before .before .before .before .before .before .before .before .before .before .before .before .before .before .before .before .before .before .before .before .before .before .before .before .before .before .before .before .before .before .before .before .before .before .before .before .before .before) .chains .kept .1 .1 .1 .1 .0); zeros = c .before .before .before .before .before .before .before .before .before .before .before .before .before .before .before .before .before .before .before .before .before .before .before .before .before .before .before .before .before .before .clear6 .ensures }; c7 = record { kept = (at-switches (c .before .before .before .before .before .before .before .before .before .before .before .before .before .before .before .before .before .before .before .before .before .before .before .before .before .before .before .before .before .before .before .before .before .before .before .before .before .before .before .before .before .before .before .before .before .before .before .before .before .before .before .before .before .before .before) .switches .kept .1 .1 .1 .0); zeros = c .before .before .before .before .before .before .before .before .before .before .before .before .before .before .before .before .before .before .before .before .before .before .before .before .before .before .clear7 .ensures }; c8 = record { kept = (at-switches (c .before .before .before .before .before .before .before .before .before .before .before .before .before .before .before .before .before .before .before .before .before .before .before .before .before .before .before .before .before .before .before .before .before .before .before .before .before .before .before .before .before .before .before .before .before .before .before .before .before .before .before .before .before .before .before) .switches .kept .1 .1 .1 .1 .0); zeros = c .before .before .before .before .before .before .before .before .before .before .before .before .before .before .before .before .before .before .before .before .before .before .clear8 .ensures }; c9 = record { kept = (at-switches (c .before .before .before .before .before .before .before .before .before .before .before .before .before .before .before .before .before .before .before .before .before .before .before .before .before .before .before .before .before .before .before .before .before .before .before .before .before .before .before .before .before .before .before .before .before .before .before .before .before .before .before .before .before .before .before) .switches .kept .1 .1 .1 .1 .1 .0); zeros = c .before .before .before .before .before .before .before .before .before .before .before .before .before .before .before .before .before .before .clear9 .ensures }; c10 = record { kept = (at-customs (c .before .before .before .before .before .before .before .before .before .before .before .before .before .before .before .before .before .before .before .before .before .before .before .before .before .before .before .before .before .before .before .before .before .before .before .before .before .before .before .before .before .before .before .before .before .before .before .before .before .before .before .before .before .before .before) .customs .kept .1 .1 .0); zeros = c .before .before .before .before .before .before .before .before .before .before .before .before .before .before .clear10 .ensures }; c11 = record { kept = (at-customs (c .before .before .before .before .before .before .before .before .before .before .before .before .before .before .before .before .before .before .before .before .before .before .before .before .before .before .before .before .before .before .before .before .before .before .before .before .before .before .before .before .before .before .before .before .before .before .before .before .before .before .before .before .before .before .before) .customs .kept .1 .1 .1 .0); zeros = c .before .before .before .before .before .before .before .before .before .before .clear11 .ensures }; c12 = record { kept = (at-functions (c .before .before .before .before .before .before .before .before .before .before .before .before .before .before .before .before .before .before .before .before .before .before .before .before .before .before .before .before .before .before .before .before .before .before .before .before .before .before .before .before .before .before .before .before .before .before .before .before .before .before .before .before .before .before .before) .functions .kept .1 .1 .0); zeros = c .before .before .before .before .before .before .clear12 .ensures }; c13 = record { kept = (at-functions (c .before .before .before .before .before .before .before .before .before .before .before .before .before .before .before .before .before .before .before .before .before .before .before .before .before .before .before .before .before .before .before .before .before .before .before .before .before .before .before .before .before .before .before .before .before .before .before .before .before .before .before .before .before .before .before) .functions .kept .1 .1 .1 .0); zeros = c .before .before .clear13 .ensures } }) (c .before .before .before .before .before .before .before .before .before .before .before .before .before .before .before .before .before .before .before .before .before .before .before .before .before .before .before .before .before .before .before .before .before .before .before .before .before .before .before .before .before .before .before .before .before .before .before .before .before .before .before .before .before .r .given .1) _ refl
+returns c =
+    at-end _ _ _ _ _ _ _ _ _ _ _ _ _ _ _ _ _ _ _ _ _ _ _ _ _ _ _ _ _ _ _ _ _ _ _ _ _ _ _ _ _ _ (ran (at-last c)) (at-kept c .before .used .ensures) (at-kept c .kept .ensures) (at-clear c .clear-behind .ensures) (c .before .artifact .ensures) (c .answer .ensures)
 
 pub read-spec : {M : Type 1} → statement M
 read-spec =
@@ -266,24 +208,11 @@ read-spec =
     code-requires
     positions-requires
     end-requires
-    enum-told
     used-requires
+    kept-requires
     clear-behind-requires
     artifact-requires
-    enum-known-r
-    clear-requires
-    clear-requires-2
-    clear-requires-3
-    clear-requires-4
-    clear-requires-5
-    clear-requires-6
-    clear-requires-7
-    clear-requires-8
-    clear-requires-9
-    clear-requires-10
-    clear-requires-11
-    clear-requires-12
-    clear-requires-13
+    answer-requires
     same-length
     same-length-2
     same-length-3
@@ -297,18 +226,4 @@ read-spec =
     same-length-11
     same-length-12
     same-length-13
-    returns
-    same-length-14
-    same-length-15
-    same-length-16
-    same-length-17
-    same-length-18
-    same-length-19
-    same-length-20
-    same-length-21
-    same-length-22
-    same-length-23
-    same-length-24
-    same-length-25
-    same-length-26
-    returns-2)
+    returns)
