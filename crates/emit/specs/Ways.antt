@@ -3,11 +3,16 @@ use Prim.Native.Nat.{ℕ}
 use mathlib.Core.Bool.{Bool, true, false}
 use mathlib.Core.List.{List, map}
 use Rattle.tables.specs.Table.{With}
+use Rattle.format.specs.declared.records.OptionalPosition.{OptionalPosition}
 use Rattle.format.specs.declared.records.Root.{Root}
 use Rattle.format.specs.declared.records.Step.{Step}
 use Rattle.format.specs.declared.records.Chain.{Chain}
 use Rattle.written.specs.Put.{putStep, putChain}
 use Rattle.written.specs.Strip.{stripRoot, stripStep, stripChain}
+
+abbrev pub positionIn : Bool → OptionalPosition → OptionalPosition
+positionIn false p = p
+positionIn true p = OptionalPosition.Absent
 
 abbrev pub rootIn : Bool → Root → Root
 rootIn false r = r

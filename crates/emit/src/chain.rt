@@ -1,231 +1,108 @@
-// Chains: where they start, their steps, and what they do at the end.
-ghost use mathlib.Core.Path.{_≡_};
+// Chains: where they start, their steps, and what they do at the end, from the words of their rows. Where positions are stripped, none
+// is written.
 ghost use Prim.Native.Nat.{_+_, _*_, _≤_};
+ghost use mathlib.Core.List.{[], _∷_};
 ghost use lib.ListN.{length, drop};
-ghost use Rattle.rows.specs.Back.{recordsOf, stepOf};
+ghost use Rattle.rows.specs.Back.{recordsOf, octet, chainOf, stepOf, indexOf, propertyOf, methodOf};
 ghost use Rattle.written.specs.Put as definition;
-ghost use Rattle.written.specs.Strip as stripping;
 ghost use Rattle.emit.specs.Shares.{SharesFit, chainFrom, chainsOf};
 ghost use Rattle.emit.specs.Puts.{Puts};
-ghost use Rattle.emit.specs.Ways.{rootIn, stepIn, putStepIn, putChainIn, chainsIn};
+ghost use Rattle.emit.specs.Ways.{rootIn, putStepIn, putChainIn, chainsIn};
 use crate::base::byte;
 use crate::base::number;
-use crate::places::chain_at;
-use crate::places::step_at;
-use crate::records::name;
-use crate::records::position;
-use format::records::Chain;
-use format::records::NameIndex;
-use format::records::OptionalPosition;
-use format::records::Root;
-use format::records::Step;
-use format::records::Tail;
+use crate::places::chain_row;
+use crate::places::step_row;
+use crate::words::index;
+use crate::words::octet;
+use crate::words::position;
+use crate::words::small;
 use format::tags::RootTag;
 use format::tags::StepTag;
 use format::tags::TailTag;
 
-pub fn root(out: &mut [u8], at: usize, r: Root) -> usize
-    ensures { λ next. ⌜ Puts (definition.putRoot r) (now (out .entry)) at (now (out .exit)) next ⌝ }
+pub fn root(out: &mut [u8], at: usize, strip: bool, row: [u64; 9]) -> usize
+    ensures { λ r. ⌜ Puts (definition.putRoot (rootIn strip (chainOf row .root))) (now (out .entry)) at (now (out .exit)) r ⌝ }
 {
-    match r {
-        Root::Local { slot, name: named } => {
-            let tag = byte(out, at, RootTag::LOCAL);
-            let behind = number(out, tag, slot as u64);
-            name(out, behind, named)
-        }
-        Root::Temporary => byte(out, at, RootTag::TEMPORARY),
-        Root::Named {
-            name: named,
-            position: from,
-        } => {
-            let tag = byte(out, at, RootTag::NAMED);
-            let behind = name(out, tag, named);
-            position(out, behind, from)
-        }
-        Root::This { position: from } => {
-            let tag = byte(out, at, RootTag::THIS);
-            position(out, tag, from)
-        }
+    let tag = row[0];
+    if tag == RootTag::LOCAL as u64 {
+        let behind = byte(out, at, RootTag::LOCAL);
+        let slot = small(out, behind, row[1]);
+        return index(out, slot, row[2]);
     }
-}
-
-fn index(
-    out: &mut [u8],
-    at: usize,
-    flags: u8,
-    operand: u16,
-    from: OptionalPosition,
-    bracket: OptionalPosition,
-) -> usize
-    ensures { λ next. ⌜ Puts (definition.putStep (Step.Index flags operand from bracket)) (now (out .entry)) at (now (out .exit)) next ⌝ }
-{
-    let tag = byte(out, at, StepTag::INDEX);
-    let flag = byte(out, tag, flags);
-    let behind = number(out, flag, operand as u64);
-    let place = position(out, behind, from);
-    position(out, place, bracket)
-}
-
-fn property(
-    out: &mut [u8],
-    at: usize,
-    flags: u8,
-    named: NameIndex,
-    getter: NameIndex,
-    setter: NameIndex,
-    from: OptionalPosition,
-) -> usize
-    ensures { λ next. ⌜ Puts (definition.putStep (Step.Property flags named getter setter from)) (now (out .entry)) at (now (out .exit)) next ⌝ }
-{
-    let tag = byte(out, at, StepTag::PROPERTY);
-    let flag = byte(out, tag, flags);
-    let behind = name(out, flag, named);
-    let got = name(out, behind, getter);
-    let set = name(out, got, setter);
-    position(out, set, from)
-}
-
-fn method(
-    out: &mut [u8],
-    at: usize,
-    flags: u8,
-    named: NameIndex,
-    argc: u8,
-    operand: u16,
-    from: OptionalPosition,
-) -> usize
-    ensures { λ next. ⌜ Puts (definition.putStep (Step.Method flags named argc operand from)) (now (out .entry)) at (now (out .exit)) next ⌝ }
-{
-    let tag = byte(out, at, StepTag::METHOD);
-    let flag = byte(out, tag, flags);
-    let behind = name(out, flag, named);
-    let counted = byte(out, behind, argc);
-    let place = number(out, counted, operand as u64);
-    position(out, place, from)
-}
-
-pub fn step(out: &mut [u8], at: usize, s: Step) -> usize
-    ensures { λ next. ⌜ Puts (definition.putStep s) (now (out .entry)) at (now (out .exit)) next ⌝ }
-{
-    match s {
-        Step::Index {
-            flags,
-            operand,
-            position: from,
-            bracket,
-        } => index(out, at, flags, operand, from, bracket),
-        Step::Property {
-            flags,
-            name: named,
-            getter,
-            setter,
-            position: from,
-        } => property(out, at, flags, named, getter, setter, from),
-        Step::Method {
-            flags,
-            name: named,
-            argc,
-            operand,
-            position: from,
-        } => method(out, at, flags, named, argc, operand, from),
+    if tag == RootTag::TEMPORARY as u64 {
+        return byte(out, at, RootTag::TEMPORARY);
     }
-}
-
-pub fn tail(out: &mut [u8], at: usize, t: Tail) -> usize
-    ensures { λ next. ⌜ Puts (definition.putTail t) (now (out .entry)) at (now (out .exit)) next ⌝ }
-{
-    match t {
-        Tail::Read => byte(out, at, TailTag::READ),
-        Tail::Assign => byte(out, at, TailTag::ASSIGN),
-        Tail::AssignOp { op } => {
-            let tag = byte(out, at, TailTag::ASSIGN_OP);
-            number(out, tag, op.0 as u64)
-        }
+    if tag == RootTag::NAMED as u64 {
+        let behind = byte(out, at, RootTag::NAMED);
+        let named = index(out, behind, row[2]);
+        return position(out, named, strip, row[3], row[4]);
     }
+    let behind = byte(out, at, RootTag::THIS);
+    position(out, behind, strip, row[3], row[4])
 }
 
-pub fn strip_root(r: Root) -> Root
-    ensures { λ stripped. ⌜ stripped ≡ stripping.stripRoot r ⌝ }
+// The tag and the flags.
+fn opening(out: &mut [u8], at: usize, tag: u8, flags: u64) -> usize
+    ensures { λ r. ⌜ Puts (tag ∷ octet flags ∷ []) (now (out .entry)) at (now (out .exit)) r ⌝ }
 {
-    match r {
-        Root::Local { slot, name: named } => Root::Local { slot, name: named },
-        Root::Temporary => Root::Temporary,
-        Root::Named {
-            name: named,
-            position: _,
-        } => Root::Named {
-            name: named,
-            position: OptionalPosition::Absent,
-        },
-        Root::This { position: _ } => Root::This {
-            position: OptionalPosition::Absent,
-        },
-    }
+    let behind = byte(out, at, tag);
+    octet(out, behind, flags)
 }
 
-pub fn strip_step(s: Step) -> Step
-    ensures { λ stripped. ⌜ stripped ≡ stripping.stripStep s ⌝ }
+fn index_step(out: &mut [u8], at: usize, strip: bool, row: [u64; 11]) -> usize
+    ensures { λ r. ⌜ Puts (putStepIn strip (indexOf row)) (now (out .entry)) at (now (out .exit)) r ⌝ }
 {
-    match s {
-        Step::Index {
-            flags,
-            operand,
-            position: _,
-            bracket: _,
-        } => Step::Index {
-            flags,
-            operand,
-            position: OptionalPosition::Absent,
-            bracket: OptionalPosition::Absent,
-        },
-        Step::Property {
-            flags,
-            name: named,
-            getter,
-            setter,
-            position: _,
-        } => Step::Property {
-            flags,
-            name: named,
-            getter,
-            setter,
-            position: OptionalPosition::Absent,
-        },
-        Step::Method {
-            flags,
-            name: named,
-            argc,
-            operand,
-            position: _,
-        } => Step::Method {
-            flags,
-            name: named,
-            argc,
-            operand,
-            position: OptionalPosition::Absent,
-        },
-    }
+    let opened = opening(out, at, StepTag::INDEX, row[1]);
+    let operand = small(out, opened, row[2]);
+    let place = position(out, operand, strip, row[7], row[8]);
+    position(out, place, strip, row[9], row[10])
 }
 
-// A root and a step in the way asked: with its positions, or stripped.
-pub fn root_in(out: &mut [u8], at: usize, strip: bool, r: Root) -> usize
-    ensures { λ next. ⌜ Puts (definition.putRoot (rootIn strip r)) (now (out .entry)) at (now (out .exit)) next ⌝ }
+fn property(out: &mut [u8], at: usize, strip: bool, row: [u64; 11]) -> usize
+    ensures { λ r. ⌜ Puts (putStepIn strip (propertyOf row)) (now (out .entry)) at (now (out .exit)) r ⌝ }
 {
-    if strip {
-        root(out, at, strip_root(r))
+    let opened = opening(out, at, StepTag::PROPERTY, row[1]);
+    let named = index(out, opened, row[3]);
+    let got = index(out, named, row[4]);
+    let set = index(out, got, row[5]);
+    position(out, set, strip, row[7], row[8])
+}
+
+fn method(out: &mut [u8], at: usize, strip: bool, row: [u64; 11]) -> usize
+    ensures { λ r. ⌜ Puts (putStepIn strip (methodOf row)) (now (out .entry)) at (now (out .exit)) r ⌝ }
+{
+    let opened = opening(out, at, StepTag::METHOD, row[1]);
+    let named = index(out, opened, row[3]);
+    let counted = octet(out, named, row[6]);
+    let operand = small(out, counted, row[2]);
+    position(out, operand, strip, row[7], row[8])
+}
+
+pub fn step(out: &mut [u8], at: usize, strip: bool, row: [u64; 11]) -> usize
+    ensures { λ r. ⌜ Puts (putStepIn strip (stepOf row)) (now (out .entry)) at (now (out .exit)) r ⌝ }
+{
+    let tag = row[0];
+    if tag == StepTag::INDEX as u64 {
+        index_step(out, at, strip, row)
+    } else if tag == StepTag::PROPERTY as u64 {
+        property(out, at, strip, row)
     } else {
-        root(out, at, r)
+        method(out, at, strip, row)
     }
 }
 
-pub fn step_in(out: &mut [u8], at: usize, strip: bool, s: Step) -> usize
-    ensures { λ next. ⌜ Puts (definition.putStep (stepIn strip s)) (now (out .entry)) at (now (out .exit)) next ⌝ }
+pub fn tail(out: &mut [u8], at: usize, row: [u64; 9]) -> usize
+    ensures { λ r. ⌜ Puts (definition.putTail (chainOf row .tail)) (now (out .entry)) at (now (out .exit)) r ⌝ }
 {
-    if strip {
-        step(out, at, strip_step(s))
-    } else {
-        step(out, at, s)
+    let tag = row[7];
+    if tag == TailTag::READ as u64 {
+        return byte(out, at, TailTag::READ);
     }
+    if tag == TailTag::ASSIGN as u64 {
+        return byte(out, at, TailTag::ASSIGN);
+    }
+    let behind = byte(out, at, TailTag::ASSIGN_OP);
+    index(out, behind, row[8])
 }
 
 // A count and the steps from a place of their table on.
@@ -237,24 +114,21 @@ pub fn step_list(out: &mut [u8], at: usize, strip: bool, t: &[u64], from: usize,
     let mut place = number(out, at, n as u64);
     let mut j = from;
     while j < end {
-        place = step_in(out, place, strip, step_at(t, j));
+        place = step(out, place, strip, step_row(t, j));
         j += 1;
     }
     place
 }
 
 // A chain with its steps, from a place of their table on.
-fn chain(out: &mut [u8], at: usize, strip: bool, c: Chain, steps: &[u64], from: usize) -> usize
-    requires { ⌜ (from + c .steps) * 11 ≤ length (now steps) ⌝ }
-    ensures { λ r. ⌜ Puts (putChainIn strip (chainFrom c (now (steps .entry)) from)) (now (out .entry)) at (now (out .exit)) r ⌝ }
+fn chain(out: &mut [u8], at: usize, strip: bool, row: [u64; 9], steps: &[u64], from: usize) -> usize
+    requires { ⌜ (from + chainOf row .steps) * 11 ≤ length (now steps) ⌝ }
+    ensures { λ r. ⌜ Puts (putChainIn strip (chainFrom (chainOf row) (now (steps .entry)) from)) (now (out .entry)) at (now (out .exit)) r ⌝ }
 {
-    let start = c.root;
-    let last = c.tail;
-    let n = c.steps as usize;
-    let root = root_in(out, at, strip, start);
-    let operands = number(out, root, c.operands as u64);
-    let behind = step_list(out, operands, strip, steps, from, n);
-    tail(out, behind, last)
+    let started = root(out, at, strip, row);
+    let operands = small(out, started, row[5]);
+    let behind = step_list(out, operands, strip, steps, from, row[6] as usize);
+    tail(out, behind, row)
 }
 
 // The section, in the way asked. That the chains own all the steps, and no more, was tested before.
@@ -273,9 +147,9 @@ pub fn chains(
     let mut from: usize = 0;
     let mut j: usize = 0;
     while j < used {
-        let c = chain_at(t, j);
-        place = chain(out, place, strip, c, steps, from);
-        from += c.steps as usize;
+        let row = chain_row(t, j);
+        place = chain(out, place, strip, row, steps, from);
+        from += row[6] as usize;
         j += 1;
     }
     place

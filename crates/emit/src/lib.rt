@@ -10,3 +10,4 @@ pub mod lists;
 mod places;
 pub mod records;
 pub mod switch;
+mod words;

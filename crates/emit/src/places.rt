@@ -5,16 +5,13 @@ ghost use lib.ListN.{length, take, drop};
 ghost use Rattle.rows.specs.Back as definition;
 use format::records::Assign;
 use format::records::Case;
-use format::records::Chain;
 use format::records::Function;
 use format::records::Input;
 use format::records::NameIndex;
 use format::records::Range;
 use format::records::Site;
-use format::records::Step;
 use format::records::Switch;
 use grammar::Span;
-use rows::chains::chain_of;
 use rows::constants::Keyed;
 use rows::constants::keyed_of;
 use rows::customs::input_of;
@@ -23,7 +20,6 @@ use rows::functions::function_of;
 use rows::functions::parameter_of;
 use rows::names::end_of;
 use rows::row;
-use rows::steps::step_of;
 use rows::switches::case_of;
 use rows::switches::range_of;
 use rows::switches::switch_of;
@@ -51,18 +47,19 @@ pub fn assign_at(t: &[u64], k: usize) -> Assign
     assign_of(row::of_six(t, k * 6))
 }
 
-pub fn chain_at(t: &[u64], k: usize) -> Chain
+// The words alone, where the record is never made.
+pub fn chain_row(t: &[u64], k: usize) -> [u64; 9]
     requires { ⌜ (k + 1) * 9 ≤ length (now t) ⌝ }
-    ensures { λ r. ⌜ r ≡ definition.chainOf (take 9 (drop (k * 9) (now (t .entry)))) ⌝ }
+    ensures { λ r. ⌜ r ≡ take 9 (drop (k * 9) (now (t .entry))) ⌝ }
 {
-    chain_of(row::of_nine(t, k * 9))
+    row::of_nine(t, k * 9)
 }
 
-pub fn step_at(t: &[u64], k: usize) -> Step
+pub fn step_row(t: &[u64], k: usize) -> [u64; 11]
     requires { ⌜ (k + 1) * 11 ≤ length (now t) ⌝ }
-    ensures { λ r. ⌜ r ≡ definition.stepOf (take 11 (drop (k * 11) (now (t .entry)))) ⌝ }
+    ensures { λ r. ⌜ r ≡ take 11 (drop (k * 11) (now (t .entry))) ⌝ }
 {
-    step_of(row::of_eleven(t, k * 11))
+    row::of_eleven(t, k * 11)
 }
 
 pub fn switch_at(t: &[u64], k: usize) -> Switch

@@ -4,27 +4,11 @@ ghost use Rattle.emit.specs.Puts.{Puts};
 use crate::base::number;
 use format::records::Chunk;
 use format::records::NameIndex;
-use format::records::OptionalPosition;
 
 pub fn name(out: &mut [u8], at: usize, n: NameIndex) -> usize
     ensures { λ r. ⌜ Puts (definition.putName n) (now (out .entry)) at (now (out .exit)) r ⌝ }
 {
     number(out, at, n.0 as u64)
-}
-
-pub fn position(out: &mut [u8], at: usize, p: OptionalPosition) -> usize
-    ensures { λ r. ⌜ Puts (definition.putPosition p) (now (out .entry)) at (now (out .exit)) r ⌝ }
-{
-    match p {
-        OptionalPosition::Absent => {
-            let line = number(out, at, 0);
-            number(out, line, 0)
-        }
-        OptionalPosition::At { line, column } => {
-            let behind = number(out, at, line as u64);
-            number(out, behind, column as u64)
-        }
-    }
 }
 
 pub fn chunk(out: &mut [u8], at: usize, c: Chunk) -> usize

@@ -1,22 +1,23 @@
--- Variant by variant.
+-- By the tag, as the definition tests it.
+use borrow.Author.Tests.{eq-eqb, ne-eqb}
 use borrow.Author.Needs.{needs}
 use Rattle.emit.proofs.chain.step.Statement.{statement}
 use Rattle.emit.proofs.chain.step.Tie as tie
 
-enum-known-s : tie.Need-enum-known-s
-enum-known-s c = search needs
+array-read-tag : tie.Need-array-read-tag
+array-read-tag c = search needs
 
-index-requires : tie.Need-index-requires
-index-requires c κs = search needs
+cast-if1 : tie.Need-cast-if1
+cast-if1 c = search needs
 
-enum-known-s-2 : tie.Need-enum-known-s-2
-enum-known-s-2 c = search needs
+index-step-requires : tie.Need-index-step-requires
+index-step-requires c κs = search needs
+
+cast-if2 : tie.Need-cast-if2
+cast-if2 c = search needs
 
 property-requires : tie.Need-property-requires
 property-requires c κs = search needs
-
-enum-known-s-3 : tie.Need-enum-known-s-3
-enum-known-s-3 c = search needs
 
 method-requires : tie.Need-method-requires
 method-requires c κs = search needs
@@ -25,29 +26,29 @@ same-length : tie.Need-same-length
 same-length c = search needs
 
 returns : tie.Need-returns
-returns c = rw (c .before .before .before .before .before .s .given .1) (c .before .before .index .ensures)
+returns c = rw (eq-eqb _ _ (c .before .before .before .before .if1 .taken)) (c .before .before .index-step .ensures)
 
 same-length-2 : tie.Need-same-length-2
 same-length-2 c = search needs
 
 returns-2 : tie.Need-returns-2
-returns-2 c = rw (c .before .before .before .before .before .s2 .given .1) (c .before .before .property .ensures)
+returns-2 c = rw (ne-eqb _ _ (c .before .before .before .before .before .if1 .left), eq-eqb _ _ (c .before .before .before .before .if2 .taken)) (c .before .before .property .ensures)
 
 same-length-3 : tie.Need-same-length-3
 same-length-3 c = search needs
 
 returns-3 : tie.Need-returns-3
-returns-3 c = rw (c .before .before .before .before .before .s3 .given .1) (c .before .before .method .ensures)
+returns-3 c = rw (ne-eqb _ _ (c .before .before .before .before .before .if1 .left), ne-eqb _ _ (c .before .before .before .before .if2 .left)) (c .before .before .method .ensures)
 
 pub step-spec : {M : Type 1} → statement M
 step-spec =
     tie.close
     (tie.spec
-    enum-known-s
-    index-requires
-    enum-known-s-2
+    array-read-tag
+    cast-if1
+    index-step-requires
+    cast-if2
     property-requires
-    enum-known-s-3
     method-requires
     same-length
     returns
