@@ -1,4 +1,4 @@
--- "Numbers and files to try" of document 01, those marked * in its order, then three about what tempts; `Hold` of proofs/ says that every one holds.
+-- "Numbers and files to try" of document 01, those marked * in its order, then five about what tempts; `Hold` of proofs/ says that every one holds.
 use Prim.Native.Nat.{ℕ, zero, suc, _-_, _^_}
 use mathlib.Core.Path.{_≡_}
 use mathlib.Core.List.{List, [], _∷_, _++_}
@@ -6,6 +6,7 @@ use lib.ListN.{length, replicate, getD}
 use lib.IntN.{ℤ, pos, negsuc}
 use Rattle.refusal.specs.declared.Refusal.{Refusal}
 use Rattle.refusal.specs.declared.PositionsFault.{PositionsFault}
+use Rattle.refusal.specs.declared.Place.{Place}
 use Rattle.grammar.specs.Outcome.{start, advanced, Outcome, got, refused}
 use Rattle.grammar.specs.Number.{number, signed, shortest}
 use Rattle.position_table.specs.declared.Site.{Site}
@@ -104,6 +105,14 @@ narrow = 0x52 ∷ 0x47 ∷ 0x52 ∷ 0x4E ∷ 0x0B ∷ 0x00 ∷ 0x04 ∷ 0x08 ∷
 abbrev token : List ℕ
 token = front ++ (0x00 ∷ 0x01 ∷ 0x01 ∷ 0x2B ∷ replicate 10 0)
 
+-- one array of one item, and a switch whose case names constant 1: an inner constant is in no pool that a case indexes
+abbrev pool : List ℕ
+pool = front ++ (0x01 ∷ 0x07 ∷ 0x01 ∷ 0x00 ∷ 0x00 ∷ 0x00 ∷ 0x00 ∷ 0x01 ∷ 0x01 ∷ 0x00 ∷ 0x01 ∷ [])
+
+-- a chain whose step has neither a tag that is known nor flags within the mask: the flags are judged first
+abbrev flagged : List ℕ
+flagged = front ++ (0x00 ∷ 0x00 ∷ 0x00 ∷ 0x01 ∷ 0x02 ∷ 0x00 ∷ 0x01 ∷ 0x09 ∷ 0x01 ∷ [])
+
 abbrev pub cases : List Case
 cases =
     reads (0x80 ∷ 0x00 ∷ []) (got 0 (advanced start 2))
@@ -125,4 +134,6 @@ cases =
     ∷ loads (narrow ++ replicate 3 0) (refused Refusal.Truncated)
     ∷ loads (narrow ++ replicate 4 0) (refused (Refusal.Abi 4 8))
     ∷ fills token 2 (34 ∷ 1 ∷ [])
+    ∷ loads pool (refused (Refusal.BadIndex 41 1))
+    ∷ loads flagged (refused (Refusal.UnknownTag Place.Flags 1))
     ∷ []
