@@ -1,7 +1,7 @@
 -- The loop over constants: the rows before the next one are put, and what is still to grow comes to what was to grow.
-use Prim.Native.Nat.{ℕ, zero, suc, _+_, _*_, _-_, _≤_, _<_, min}
+use Prim.Native.Nat.{ℕ, zero, suc, _+_, _*_, _-_, _≤_, _<_}
 use mathlib.Core.Bool.{Bool, true, false}
-use mathlib.Core.Path.{_≡_, refl}
+use mathlib.Core.Path.{_≡_, refl, sym, _∙_, ap}
 use mathlib.Core.List.{List, [], _∷_, map}
 use native.Mathlib.Omega.{arith}
 use borrow.Author.Tests.{ltb-true, ltb-false}
@@ -17,7 +17,7 @@ use Rattle.model.specs.Lent.{clip}
 use Rattle.emit.specs.declared.constant.Behind.{Behind}
 use Rattle.emit.specs.Puts.{Puts}
 use Rattle.emit.specs.Constants.{headBytes, footBytes, keysOf, keyBytes, Enough, rowsFrom, putItem, ItemsStand, PutsItems}
-use Rattle.emit.proofs.Laws.{puts-none, puts-same, puts-then, Onward, onward-start, onward-more, onward-done}
+use Rattle.emit.proofs.Laws.{puts-same, puts-then, Onward, onward-none, onward-more, onward-done}
 use Rattle.emit.proofs.Listing.{between-more, between-none, between-all}
 use Rattle.emit.proofs.Nodes.{enough-length, item-bytes, tops-list}
 
@@ -71,9 +71,9 @@ pub record Growing (text : List ℕ) (keys : Bool) (levels n : ℕ) (t : List �
   pub going : Onward (putAll (putItem text keys levels) (grow levels n (rowsFrom t used from) .trees)) e at
       (putAll (putItem text keys levels) (grow levels left (rowsFrom t used next) .trees)) out place
 
-pub growing-none : {text : List ℕ} {keys : Bool} {levels n : ℕ} {t : List ℕ} {used from : ℕ} {e : List ℕ} {at place : ℕ} →
-    ItemsStand levels n t used from → place ≡ min (at + 0) 1048577 → Growing text keys levels n t used from e at from n e place
-growing-none stand is = record { stand = stand; rest = refl; going = onward-start (puts-none is) }
+pub growing-none : {text : List ℕ} {keys : Bool} {levels n : ℕ} {t : List ℕ} {used from : ℕ} {e : List ℕ} {at : ℕ} →
+    ItemsStand levels n t used from → Growing text keys levels n t used from e at from n e at
+growing-none stand = record { stand = stand; rest = refl; going = onward-none }
 
 pub growing-done : (levels left : ℕ) {text : List ℕ} {keys : Bool} {n : ℕ} {t : List ℕ} {used from : ℕ} {e : List ℕ} {at next : ℕ} {out : List ℕ} {place : ℕ} →
     Growing text keys levels n t used from e at next left out place → left ≤ 0 →
@@ -82,6 +82,11 @@ growing-done zero zero g h = record { few = g .stand .few; rest = g .rest; puts 
 growing-done (suc l) zero g h = record { few = g .stand .few; rest = g .rest; puts = onward-done (g .going) }
 growing-done zero (suc k) g h = absurd (omega arith)
 growing-done (suc l) (suc k) g h = absurd (omega arith)
+
+-- no constant at all
+pub growing-nothing : (levels : ℕ) {text : List ℕ} {keys : Bool} {t : List ℕ} {used from : ℕ} {e : List ℕ} {at : ℕ} → ItemsStand levels 0 t used from →
+    PutsItems text keys levels 0 t used from e at e (record { place = at; next = from })
+growing-nothing levels stand = growing-done levels 0 (growing-none stand) (omega arith)
 
 -- one constant more, of a row: its key, its head, its items, and what stands behind them
 module _ {text : List ℕ} {keys : Bool} {n : ℕ} {t : List ℕ} {used from : ℕ} {e : List ℕ} {at next : ℕ} {out : List ℕ} {place : ℕ}
@@ -116,6 +121,16 @@ module _ {text : List ℕ} {keys : Bool} {n : ℕ} {t : List ℕ} {used from : �
       let less : suc l - 1 ≡ l = omega arith in
       let fewer : suc k - 1 ≡ k = omega arith in
       rw fewer (one-more g (rw is at before) (rw is at first) (rw (less, counts, told, is) at items) (rw is at behind))
+
+-- one constant more that owns none
+pub growing-alone : (levels left : ℕ) {text : List ℕ} {keys : Bool} {n : ℕ} {t : List ℕ} {used from : ℕ} {e : List ℕ} {at next : ℕ} {out : List ℕ} {place : ℕ}
+    {a b y : List ℕ} {p q last : ℕ} {keyed : Keyed} {m : ℕ} → Growing text keys levels n t used from e at next left out place → 0 < left →
+    keyed ≡ keyedAt t next → m ≡ itemsOf (keyed .constant) → m ≡ 0 →
+    Puts (keyBytes text keys (keyed .key)) out place a p → Puts (headBytes text (keyed .constant)) a p b q → Puts (footBytes (keyed .constant)) b q y last →
+    Growing text keys levels n t used from e at (next + 1) (left - 1) y last
+growing-alone levels left {t = t} {next = next} g h is counts none before first behind =
+    let zero : itemsOf (keyedAt t next .constant) ≡ 0 = ap (λ (k : Keyed). itemsOf (k .constant)) (sym is) ∙ sym counts ∙ none in
+    growing-more levels left g h is counts refl before first (rw none (growing-nothing (levels - 1) (rw zero at (turn-of levels left (g .stand) h .items)))) behind
 
 -- the top constants behind their count
 pub tops-puts : (levels tops : ℕ) {text t : List ℕ} {used : ℕ} {e m x : List ℕ} {at mid : ℕ} {r : Behind} → ItemsStand levels tops t used 0 →

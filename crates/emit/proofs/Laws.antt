@@ -1,68 +1,80 @@
 -- The laws of `Puts`: what is put where it fits, and one thing behind another.
-use Prim.Native.Nat.{ℕ, _+_, _≤_, _<_, min}
+use Prim.Native.Nat.{ℕ, _+_, _≤_, _<_}
 use mathlib.Core.Path.{_≡_, refl, sym, _∙_, ap}
-use mathlib.Core.List.{List, [], _++_}
+use mathlib.Core.List.{List, [], _++_, append-assoc, append-nil}
+use native.Mathlib.Nat.{add-zero}
 use native.Mathlib.Omega.{arith}
-use lib.ListN.{length, length-append}
-use lib.Seq.{sets, length-sets}
-use Rattle.tables.proofs.Stores.{sets-append}
+use lib.ListN.{length, take, drop, length-append}
+use lib.Seq.{sets, sets-eq, length-sets, length-take-le, take-at}
 use Rattle.emit.specs.Puts.{Puts}
 
--- nothing, and the place capped
-pub puts-none : {e : List ℕ} {at next : ℕ} → next ≡ min (at + 0) 1048577 → Puts [] e at e next
-puts-none is = record { next = is; kept = refl; stored = λ _ _. refl }
+pub puts-none : {e : List ℕ} {at : ℕ} → Puts [] e at e at
+puts-none {e} {at} =
+    record { kept = refl; next = λ _. sym (add-zero at); stored = λ _. rw (add-zero at) (sym (append-nil (take at e))) }
 
--- nothing is touched where the bytes do not fit: past the limit, or past the end of the output
-pub puts-nowhere : {bytes e : List ℕ} {at next : ℕ} → next ≡ min (at + length bytes) 1048577 →
-    (at + length bytes ≤ length e → at + length bytes ≤ 1048576 → ⊥) → Puts bytes e at e next
-puts-nowhere is cannot = record { next = is; kept = refl; stored = λ fits near. absurd (cannot fits near) }
+-- where the bytes do not fit nothing is touched
+pub puts-nowhere : {bytes e : List ℕ} {at next : ℕ} → length e < at + length bytes → Puts bytes e at e next
+puts-nowhere full = record { kept = refl; next = λ fits. absurd (omega arith); stored = λ fits. absurd (omega arith) }
 
-pub puts-far : {bytes e : List ℕ} {at next : ℕ} → next ≡ min (at + length bytes) 1048577 → 1048576 < next → Puts bytes e at e next
-puts-far is far = puts-nowhere is (λ _ near. omega arith)
+-- the bytes are stored, and others behind them
+pub puts-wide : (bytes more : List ℕ) {e exit : List ℕ} {at next : ℕ} → exit ≡ sets e at (bytes ++ more) →
+    (at + length bytes ≤ length e → at + length (bytes ++ more) ≤ length e) → next ≡ at + length bytes → Puts bytes e at exit next
+puts-wide bytes more {e} {exit} {at} is wide here =
+    record {
+      kept = ap length is ∙ length-sets e at (bytes ++ more);
+      next = λ _. here;
+      stored = λ fits. ap (take (at + length bytes)) (is ∙ sets-eq (bytes ++ more) e at (wide fits)) ∙ front fits;
+    }
+  where
+    rest : List ℕ
+    rest = drop (at + length (bytes ++ more)) e
 
-pub puts-full : {bytes e : List ℕ} {at next : ℕ} → next ≡ min (at + length bytes) 1048577 → length e < next → Puts bytes e at e next
-puts-full is full = puts-nowhere is (λ fits _. omega arith)
+    front : at + length bytes ≤ length e → take (at + length bytes) (take at e ++ (bytes ++ more) ++ rest) ≡ take at e ++ bytes
+    front fits =
+        ap (take (at + length bytes)) (ap (λ (l : List ℕ). l ++ rest) (sym (append-assoc (take at e) bytes more)) ∙ append-assoc (take at e ++ bytes) more rest)
+        ∙ take-at (take at e ++ bytes) (more ++ rest) (at + length bytes)
+            (length-append (take at e) bytes ∙ ap (λ (k : ℕ). k + length bytes) (length-take-le at e (omega arith)))
 
--- all is stored
-pub puts-stored : {bytes e exit : List ℕ} {at next : ℕ} → next ≡ min (at + length bytes) 1048577 → exit ≡ sets e at bytes → Puts bytes e at exit next
-puts-stored {bytes} {e} {exit} {at} is all =
-    record { next = is; kept = ap length all ∙ length-sets e at bytes; stored = λ _ _. all }
+-- the bytes alone are stored
+pub puts-stored : {bytes e exit : List ℕ} {at next : ℕ} → exit ≡ sets e at bytes → next ≡ at + length bytes → Puts bytes e at exit next
+puts-stored {bytes} is here = puts-wide bytes [] (rw (append-nil bytes) is) (λ fits. rw (append-nil bytes) fits) here
 
 pub puts-same : {a b e x : List ℕ} {at next : ℕ} → a ≡ b → Puts a e at x next → Puts b e at x next
 puts-same same p = rw (← same) p
 
 -- one thing behind another
-module _ {a b e m x : List ℕ} {at mid next : ℕ} where
-  pub puts-then : Puts a e at m mid → Puts b m mid x next → Puts (a ++ b) e at x next
-  puts-then p q =
+module _ {a b e m x : List ℕ} {at mid next : ℕ} (p : Puts a e at m mid) (q : Puts b m mid x next) where
+  last : at + length (a ++ b) ≤ length e → mid + length b ≡ at + length (a ++ b)
+  last fits = let sum = length-append a b in let first : mid ≡ at + length a = p .next (omega arith) in omega arith
+
+  room : at + length (a ++ b) ≤ length e → mid + length b ≤ length m
+  room fits = omega (arith, last fits, p .kept)
+
+  behind-first : at + length (a ++ b) ≤ length e → take mid m ++ b ≡ take at e ++ (a ++ b)
+  behind-first fits =
+      let sum = length-append a b in
+      let fits₁ : at + length a ≤ length e = omega arith in
+      ap (λ (k : ℕ). take k m ++ b) (p .next fits₁) ∙ ap (λ (l : List ℕ). l ++ b) (p .stored fits₁) ∙ append-assoc (take at e) a b
+
+  pub puts-then : Puts (a ++ b) e at x next
+  puts-then =
       record {
-        next = rw (length-append a b) (omega (arith, p .next, q .next));
         kept = q .kept ∙ p .kept;
-        stored = λ fits near. both (rw (length-append a b) at fits) (rw (length-append a b) at near);
+        next = λ fits. q .next (room fits) ∙ last fits;
+        stored = λ fits. ap (λ (k : ℕ). take k x) (sym (last fits)) ∙ q .stored (room fits) ∙ behind-first fits;
       }
-    where
-      both : at + (length a + length b) ≤ length e → at + (length a + length b) ≤ 1048576 → x ≡ sets e at (a ++ b)
-      both fits near =
-          let here : mid ≡ at + length a = omega (arith, p .next) in
-          let first : m ≡ sets e at a = p .stored (omega arith) (omega arith) in
-          let second : x ≡ sets m mid b = q .stored (omega (arith, p .kept)) (omega arith) in
-          second ∙ (rw (here, first) (sym (sets-append e at a b)))
 
 -- what is still to put comes to what was to put
 pub record Onward (all e : List ℕ) (at : ℕ) (rest out : List ℕ) (place : ℕ) : Type 0 where
-  pub near : place ≤ 1048577
   pub same : length out ≡ length e
   pub onward : {x : List ℕ} {next : ℕ} → Puts rest out place x next → Puts all e at x next
 
-pub onward-start : {front rest e m : List ℕ} {at mid : ℕ} → Puts front e at m mid → Onward (front ++ rest) e at rest m mid
-onward-start p = record { near = omega (arith, p .next); same = p .kept; onward = λ q. puts-then p q }
-
-pub onward-none : {all out : List ℕ} {place : ℕ} → place ≤ 1048577 → Onward all out place all out place
-onward-none near = record { near = near; same = refl; onward = λ q. q }
+pub onward-none : {all out : List ℕ} {place : ℕ} → Onward all out place all out place
+onward-none = record { same = refl; onward = λ q. q }
 
 module _ {all e rest out : List ℕ} {at place : ℕ} where
   pub onward-more : {a x : List ℕ} {next : ℕ} → Onward all e at (a ++ rest) out place → Puts a out place x next → Onward all e at rest x next
-  onward-more g p = record { near = omega (arith, p .next); same = p .kept ∙ g .same; onward = λ q. g .onward (puts-then p q) }
+  onward-more g p = record { same = p .kept ∙ g .same; onward = λ q. g .onward (puts-then p q) }
 
 pub onward-done : {all e out : List ℕ} {at place : ℕ} → Onward all e at [] out place → Puts all e at out place
-onward-done g = g .onward (puts-none (omega (arith, g .near)))
+onward-done g = g .onward puts-none

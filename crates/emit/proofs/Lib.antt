@@ -1,5 +1,6 @@
 -- The laws of putting: one thing behind another, a text, and a list of records.
 pub mod Laws
+pub mod Groups
 pub mod Texts
 pub mod Listing
 pub mod Sharing

@@ -47,17 +47,17 @@ pub record Listing {X : Type 0} (put : X → List ℕ) (w : ℕ) (of : List ℕ 
   pub going : Onward all e at (putAll put (between w of t j end)) out place
 
 module _ {X : Type 0} {put : X → List ℕ} {w : ℕ} {of : List ℕ → X} {t m : List ℕ} {mid : ℕ} where
-  start : (from end : ℕ) (xs : List X) → between w of t from end ≡ xs → end * w ≤ length t → from ≤ end → mid ≤ 1048577 →
+  start : (from end : ℕ) (xs : List X) → between w of t from end ≡ xs → end * w ≤ length t → from ≤ end →
       Listing put w of t (putAll put xs) m mid from end m mid
-  start from end xs is h few near = rw (← is) (record { inside = h; few = few; going = onward-none near })
+  start from end xs is h few = rw (← is) (record { inside = h; few = few; going = onward-none })
 
   pub listing-from : (from n : ℕ) → (from + n) * w ≤ length t → {e : List ℕ} {at : ℕ} → Puts (shortest n) e at m mid →
       Listing put w of t (putAll put (recordsOf w of n (drop (from * w) t))) m mid from (from + n) m mid
-  listing-from from n h p = start from (from + n) _ (between-from w of t from n) h (omega arith) (omega (arith, p .next))
+  listing-from from n h p = start from (from + n) _ (between-from w of t from n) h (omega arith)
 
   pub listing-all : (n : ℕ) → n * w ≤ length t → {e : List ℕ} {at : ℕ} → Puts (shortest n) e at m mid →
       Listing put w of t (putAll put (recordsOf w of n t)) m mid 0 n m mid
-  listing-all n h p = start 0 n _ (between-all w of t n) h (omega arith) (omega (arith, p .next))
+  listing-all n h p = start 0 n _ (between-all w of t n) h (omega arith)
 
 module _ {X : Type 0} {put : X → List ℕ} {w : ℕ} {of : List ℕ → X} {t all e : List ℕ} {at j end : ℕ} {out : List ℕ} {place : ℕ}
     (g : Listing put w of t all e at j end out place) where

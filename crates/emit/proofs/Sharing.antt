@@ -78,7 +78,7 @@ module _ {X Y : Type 0} {put : With X Y → List ℕ} {i : ℕ} {count : X → �
         fit = fit;
         few = omega arith;
         own = rw (owed-all i w t used) (omega arith);
-        going = rw (between-all w of t used, between-all iw itemOf items (owned i w used t)) (onward-none (omega (arith, p .next)));
+        going = rw (between-all w of t used, between-all iw itemOf items (owned i w used t)) onward-none;
       }
 
 module _ {X Y : Type 0} {put : With X Y → List ℕ} {i : ℕ} {count : X → ℕ} {w : ℕ} {of : List ℕ → X} {iw : ℕ} {itemOf : List ℕ → Y}

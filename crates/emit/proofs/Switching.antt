@@ -38,7 +38,7 @@ switching-none {t} {used} {cases} {ranges} fitCases fitRanges p =
       ownCases = rw (owed-all 0 3 t used) (omega arith);
       ownRanges = rw (owed-all 1 3 t used) (omega arith);
       going = rw (between-all 3 switchOf t used, between-all 2 caseOf cases (owned 0 3 used t), between-all 4 rangeOf ranges (owned 1 3 used t))
-          (onward-none (omega (arith, p .next)));
+          onward-none;
     }
 
 module _ {t : List ℕ} {used : ℕ} {cases ranges all e : List ℕ} {at j from behind : ℕ} {out : List ℕ} {place : ℕ}

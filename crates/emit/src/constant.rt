@@ -11,7 +11,6 @@ ghost use Rattle.emit.specs.Puts.{Puts};
 ghost use Rattle.emit.specs.Constants.{headBytes, footBytes, keysOf, keyBytes, ItemsStand, PutsItems, ConstantsFit, constantsOf};
 use crate::base::byte;
 use crate::base::low_bytes;
-use crate::base::moved;
 use crate::base::number;
 use crate::base::signed;
 use crate::base::text;
@@ -127,17 +126,17 @@ fn foot(out: &mut [u8], at: usize, c: Constant) -> usize
             items: _,
             kind: k,
         } => kind(out, at, k),
-        Constant::Unit => moved(at, 0),
-        Constant::Boolean { value: _ } => moved(at, 0),
-        Constant::Int(_) => moved(at, 0),
-        Constant::Float { bits: _ } => moved(at, 0),
-        Constant::Char { code: _ } => moved(at, 0),
-        Constant::Str(_) => moved(at, 0),
-        Constant::Array { items: _ } => moved(at, 0),
-        Constant::Map { items: _ } => moved(at, 0),
-        Constant::Blob(_) => moved(at, 0),
-        Constant::Range { from: _, to: _ } => moved(at, 0),
-        Constant::RangeInclusive { from: _, to: _ } => moved(at, 0),
+        Constant::Unit => at,
+        Constant::Boolean { value: _ } => at,
+        Constant::Int(_) => at,
+        Constant::Float { bits: _ } => at,
+        Constant::Char { code: _ } => at,
+        Constant::Str(_) => at,
+        Constant::Array { items: _ } => at,
+        Constant::Map { items: _ } => at,
+        Constant::Blob(_) => at,
+        Constant::Range { from: _, to: _ } => at,
+        Constant::RangeInclusive { from: _, to: _ } => at,
     }
 }
 
@@ -193,7 +192,7 @@ fn key(out: &mut [u8], at: usize, s: &[u8], keys: bool, span: Span) -> usize
     if keys {
         text(out, at, s, span)
     } else {
-        moved(at, 0)
+        at
     }
 }
 
@@ -212,7 +211,7 @@ fn items(
     requires { ⌜ ItemsStand deep n (now t) used from ⌝ }
     ensures { λ r. ⌜ PutsItems (now (s .entry)) keys deep n (now (t .entry)) used from (now (out .entry)) at (now (out .exit)) r ⌝ }
 {
-    let mut place = moved(at, 0);
+    let mut place = at;
     let mut next = from;
     let mut left = n;
     while 0 < left {
@@ -221,19 +220,15 @@ fn items(
         let c = k.constant;
         let behind = key(out, place, s, keys, named);
         let told = head(out, behind, s, c);
-        let inner = items(
-            out,
-            told,
-            t,
-            used,
-            next + 1,
-            items_of(c),
-            has_keys(c),
-            deep - 1,
-            s,
-        );
-        place = foot(out, inner.place, c);
-        next = inner.next;
+        let own = items_of(c);
+        if own == 0 {
+            place = foot(out, told, c);
+            next += 1;
+        } else {
+            let inner = items(out, told, t, used, next + 1, own, has_keys(c), deep - 1, s);
+            place = foot(out, inner.place, c);
+            next = inner.next;
+        }
         left -= 1;
     }
     Behind { place, next }

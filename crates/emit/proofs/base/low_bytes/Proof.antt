@@ -4,7 +4,7 @@ use mathlib.Core.Path.{_≡_}
 use mathlib.Core.List.{List, [], _∷_}
 use Rattle.grammar.specs.Combinators.{lowBytes}
 use Rattle.emit.specs.Puts.{Puts}
-use Rattle.emit.proofs.Laws.{puts-none, Onward, onward-start, onward-more, onward-done}
+use Rattle.emit.proofs.Laws.{Onward, onward-none, onward-more, onward-done}
 use native.Mathlib.Omega.{arith}
 use borrow.Author.Needs.{needs}
 use Rattle.emit.proofs.base.low_bytes.Statement.{statement}
@@ -25,11 +25,8 @@ Inv-loop out₀ at n v place₀ rest₀ left₀ out place rest left = Onward (lo
 abbrev μ-loop : tie.MeasureT-loop
 μ-loop out₀ at n v place₀ rest₀ left₀ out place rest left = left
 
-moved-requires : tie.Need-moved-requires Inv-loop μ-loop
-moved-requires c κs = search needs
-
 loop-holds : tie.Need-loop-holds Inv-loop μ-loop
-loop-holds c = onward-start (puts-none (c .moved .ensures))
+loop-holds c = onward-none
 
 low-requires : tie.Need-low-requires Inv-loop μ-loop
 low-requires c κs = search needs
@@ -58,7 +55,6 @@ low-bytes-spec =
     (tie.spec
     Inv-loop
     μ-loop
-    moved-requires
     loop-holds
     low-requires
     byte-requires

@@ -13,68 +13,35 @@ kind-requires c κs = search needs
 enum-told : tie.Need-enum-told
 enum-told c = search needs
 
-moved-requires : tie.Need-moved-requires
-moved-requires c κs = search needs
-
 enum-told-2 : tie.Need-enum-told-2
 enum-told-2 c = search needs
-
-moved-requires-2 : tie.Need-moved-requires-2
-moved-requires-2 c κs = search needs
 
 enum-told-3 : tie.Need-enum-told-3
 enum-told-3 c = search needs
 
-moved-requires-3 : tie.Need-moved-requires-3
-moved-requires-3 c κs = search needs
-
 enum-told-4 : tie.Need-enum-told-4
 enum-told-4 c = search needs
-
-moved-requires-4 : tie.Need-moved-requires-4
-moved-requires-4 c κs = search needs
 
 enum-told-5 : tie.Need-enum-told-5
 enum-told-5 c = search needs
 
-moved-requires-5 : tie.Need-moved-requires-5
-moved-requires-5 c κs = search needs
-
 enum-told-6 : tie.Need-enum-told-6
 enum-told-6 c = search needs
-
-moved-requires-6 : tie.Need-moved-requires-6
-moved-requires-6 c κs = search needs
 
 enum-told-7 : tie.Need-enum-told-7
 enum-told-7 c = search needs
 
-moved-requires-7 : tie.Need-moved-requires-7
-moved-requires-7 c κs = search needs
-
 enum-told-8 : tie.Need-enum-told-8
 enum-told-8 c = search needs
-
-moved-requires-8 : tie.Need-moved-requires-8
-moved-requires-8 c κs = search needs
 
 enum-told-9 : tie.Need-enum-told-9
 enum-told-9 c = search needs
 
-moved-requires-9 : tie.Need-moved-requires-9
-moved-requires-9 c κs = search needs
-
 enum-told-10 : tie.Need-enum-told-10
 enum-told-10 c = search needs
 
-moved-requires-10 : tie.Need-moved-requires-10
-moved-requires-10 c κs = search needs
-
 enum-told-11 : tie.Need-enum-told-11
 enum-told-11 c = search needs
-
-moved-requires-11 : tie.Need-moved-requires-11
-moved-requires-11 c κs = search needs
 
 same-length : tie.Need-same-length
 same-length c = search needs
@@ -83,37 +50,37 @@ returns : tie.Need-returns
 returns c = rw (c .before .before .before .before .before .c .given .1) (c .before .before .kind .ensures)
 
 returns-2 : tie.Need-returns-2
-returns-2 c = rw (c .before .enum-told .given .1) (puts-none (c .moved .ensures))
+returns-2 c = rw (c .enum-told .given .1) puts-none
 
 returns-3 : tie.Need-returns-3
-returns-3 c = rw (c .before .enum-told2 .given .1) (puts-none (c .moved2 .ensures))
+returns-3 c = rw (c .enum-told2 .given .1) puts-none
 
 returns-4 : tie.Need-returns-4
-returns-4 c = rw (c .before .enum-told3 .given .1) (puts-none (c .moved3 .ensures))
+returns-4 c = rw (c .enum-told3 .given .1) puts-none
 
 returns-5 : tie.Need-returns-5
-returns-5 c = rw (c .before .enum-told4 .given .1) (puts-none (c .moved4 .ensures))
+returns-5 c = rw (c .enum-told4 .given .1) puts-none
 
 returns-6 : tie.Need-returns-6
-returns-6 c = rw (c .before .enum-told5 .given .1) (puts-none (c .moved5 .ensures))
+returns-6 c = rw (c .enum-told5 .given .1) puts-none
 
 returns-7 : tie.Need-returns-7
-returns-7 c = rw (c .before .enum-told6 .given .1) (puts-none (c .moved6 .ensures))
+returns-7 c = rw (c .enum-told6 .given .1) puts-none
 
 returns-8 : tie.Need-returns-8
-returns-8 c = rw (c .before .enum-told7 .given .1) (puts-none (c .moved7 .ensures))
+returns-8 c = rw (c .enum-told7 .given .1) puts-none
 
 returns-9 : tie.Need-returns-9
-returns-9 c = rw (c .before .enum-told8 .given .1) (puts-none (c .moved8 .ensures))
+returns-9 c = rw (c .enum-told8 .given .1) puts-none
 
 returns-10 : tie.Need-returns-10
-returns-10 c = rw (c .before .enum-told9 .given .1) (puts-none (c .moved9 .ensures))
+returns-10 c = rw (c .enum-told9 .given .1) puts-none
 
 returns-11 : tie.Need-returns-11
-returns-11 c = rw (c .before .enum-told10 .given .1) (puts-none (c .moved10 .ensures))
+returns-11 c = rw (c .enum-told10 .given .1) puts-none
 
 returns-12 : tie.Need-returns-12
-returns-12 c = rw (c .before .enum-told11 .given .1) (puts-none (c .moved11 .ensures))
+returns-12 c = rw (c .enum-told11 .given .1) puts-none
 
 pub foot-spec : {M : Type 1} → statement M
 foot-spec =
@@ -122,27 +89,16 @@ foot-spec =
     enum-known-c
     kind-requires
     enum-told
-    moved-requires
     enum-told-2
-    moved-requires-2
     enum-told-3
-    moved-requires-3
     enum-told-4
-    moved-requires-4
     enum-told-5
-    moved-requires-5
     enum-told-6
-    moved-requires-6
     enum-told-7
-    moved-requires-7
     enum-told-8
-    moved-requires-8
     enum-told-9
-    moved-requires-9
     enum-told-10
-    moved-requires-10
     enum-told-11
-    moved-requires-11
     same-length
     returns
     returns-2

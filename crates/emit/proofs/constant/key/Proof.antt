@@ -7,9 +7,6 @@ use Rattle.emit.proofs.constant.key.Tie as tie
 text-requires : tie.Need-text-requires
 text-requires c κs = search needs
 
-moved-requires : tie.Need-moved-requires
-moved-requires c κs = search needs
-
 same-length : tie.Need-same-length
 same-length c = search needs
 
@@ -17,7 +14,7 @@ returns : tie.Need-returns
 returns c = rw (c .before .before .before .before .if1 .taken) (c .before .before .text .ensures)
 
 returns-2 : tie.Need-returns-2
-returns-2 c = rw (c .before .if1 .left) (puts-none (c .moved .ensures))
+returns-2 c = rw (c .if1 .left) puts-none
 
 pub key-spec : {M : Type 1} → statement M
-key-spec = tie.close (tie.spec text-requires moved-requires same-length returns returns-2)
+key-spec = tie.close (tie.spec text-requires same-length returns returns-2)
