@@ -1,13 +1,13 @@
 -- What writing answers and leaves, by the rule that was found broken, the bytes that were counted, and the room.
-use Prim.Native.Nat.{ℕ, zero, suc, _≤_, _<_, min}
-use mathlib.Core.Path.{_≡_, refl, _∙_}
+use Prim.Native.Nat.{ℕ, zero, suc, _+_, _≤_, _<_, min}
+use mathlib.Core.Path.{_≡_, refl, sym, _∙_, ap}
 use mathlib.Core.Bool.{Bool, true, false, _&&_}
 use mathlib.Core.List.{List, _++_}
 use native.Mathlib.Nat.{zero-add}
 use native.Mathlib.Omega.{arith}
 use borrow.Author.Tests.{le-leb, lt-leb}
-use lib.ListN.{length, drop}
-use lib.Seq.{sets-eq}
+use lib.ListN.{length, take, drop}
+use lib.Seq.{length-take-le, take-all}
 use Rattle.refusal.specs.declared.Refusal.{Refusal}
 use Rattle.varint.specs.declared.Written.{Written}
 use Rattle.model.specs.Lent.{Lent, lent, constantRows, chainRows, every}
@@ -45,12 +45,12 @@ lowest : (mask : ℕ) (stripped : Bool) (m : Lent) (ten : ℕ) (holds : Bool) �
 unfolding lowestBroken
 lowest mask stripped m ten holds is long = rw (is, long)
 
--- what was put stands in front
-in-front : {bytes out exit : List ℕ} {next : ℕ} → Puts bytes out 0 exit next → length bytes ≤ length out → length bytes ≤ 1048576 →
-    exit ≡ bytes ++ drop (length bytes) out
-in-front {bytes} {out} p room short =
-    let here = zero-add (length bytes) in
-    p .stored (rw here room) (rw here short) ∙ (rw here at (sets-eq bytes out 0 (rw here room)))
+-- what was put into the front of the output, where it takes all of it, is what stands there
+all-put : (out : List ℕ) (size : ℕ) {bytes exit : List ℕ} {next : ℕ} → Puts bytes (take size out) 0 exit next → length bytes ≡ size → size ≤ length out → exit ≡ bytes
+all-put out size {bytes} {exit} p long room =
+    let front : length (take size out) ≡ size = length-take-le size out room in
+    let here : 0 + length bytes ≡ size = zero-add (length bytes) ∙ long in
+    sym (take-all (0 + length bytes) exit (omega (arith, p .kept))) ∙ p .stored (omega arith)
 
 -- a count that is not past the longest file is the length
 whole : (stripped : Bool) (m : Lent) (size : ℕ) → size ≡ min (length (bytesOf stripped (saying true m))) 1048577 → size ≤ 1048576 →
@@ -84,10 +84,10 @@ module _ {mask : ℕ} {stripped : Bool} {m : Lent} {out : List ℕ} where
 
   -- the bytes are put
   pub writes-all : {size next : ℕ} {exit : List ℕ} → brokenOfTen mask m ≡ 0 → size ≡ min (length (bytesOf stripped (saying true m))) 1048577 → size ≤ 1048576 →
-      size ≤ length out → Puts (bytesOf stripped (saying true m)) out 0 exit next → Writes mask stripped m out exit (Written.Done size)
+      size ≤ length out → Puts (bytesOf stripped (saying true m)) (take size out) 0 exit next → Writes mask stripped m out (exit ++ drop size out) (Written.Done size)
   writes-all {size} ten is short fits p =
       let all = whole stripped m size is short in
       let long = rw (← all) at short in
       let room = rw (← all) at fits in
       writes-by 0 (lowest mask stripped m 0 true ten (le-leb _ _ long)) (rw (le-leb _ _ room, all))
-      (rw (le-leb _ _ room) (in-front (rw (same-bytes stripped m) at p) room long))
+      (rw (le-leb _ _ room, all) (ap (λ (l : List ℕ). l ++ drop size out) (all-put out size (rw (same-bytes stripped m) at p) all fits)))

@@ -12,7 +12,8 @@ use format::tags::Limit;
 use refusal::Refusal;
 use varint::Written;
 
-// The bytes are counted before they are put, so that a refusal leaves the output untouched.
+// The bytes are counted before they are put, so that a refusal leaves the output untouched. They are put into as much of it as they take:
+// a store that reaches further than its bytes stays within them.
 pub fn write(
     outside: Artifact,
     fit: bool,
@@ -83,7 +84,7 @@ pub fn write(
         return Written::Refused(Refusal::NoRoom { needed: size });
     }
     lay::lay(
-        out,
+        &mut out[..size],
         strip,
         outside,
         names,
