@@ -7,9 +7,9 @@ use native.Mathlib.Numerals.{add-one}
 use native.Mathlib.Omega.{arith}
 use lib.ListN.{length, set, length-set}
 use lib.Seq.{sets}
-use lib.Bits.{bitAnd, bitOr, and-mask, or-shifted-r}
+use lib.Bits.{bitAnd, bitOr, and-mask, or-shifted-r, or-add-and}
 use lib.Pow.{pow-add, pow-mono}
-use lib.Count.{leadingZeros, leading-length}
+use lib.Count.{leadingZeros, leading-top}
 use borrow.Author.Tests.{lt-ltb, le-ltb}
 use Rattle.grammar.specs.Number.{shortest, shortestIn}
 
@@ -127,7 +127,7 @@ seven-bits : (k : ℕ) → 2 ^ (7 * k) ≡ 128 ^ k
 seven-bits zero = refl
 seven-bits (suc k) = ap (λ (n : ℕ). 2 ^ n) (omega arith) ∙ pow-add 2 7 (7 * k) ∙ ap (λ (n : ℕ). 128 * n) (seven-bits k) ∙ sym (pow-succ' 128 k)
 
--- the half of a number has m bits
+-- the half of a number has m bits, and with its lowest bit set the number has one more
 module _ (v m : ℕ) (few : m ≤ 64) (below : v / 2 < 2 ^ m) (above : 2 ^ m ≤ 2 * (v / 2) + 1) where
   bits-groups : length (shortest v) ≡ (m + 7) / 7
   unfolding shortest
@@ -144,8 +144,12 @@ module _ (v m : ℕ) (few : m ≤ 64) (below : v / 2 < 2 ^ m) (above : 2 ^ m ≤
           let twice : 2 ^ (m + 1) ≡ 2 * 2 ^ m = ap (λ (n : ℕ). 2 ^ n) (omega arith) ∙ pow-succ' 2 m in
           between k 10 v (omega (arith, seven-bits (suc k))) (omega (arith, seven-bits (suc (suc k)))) (omega arith) ∙ omega arith
 
-pub zeros-groups : (v : ℕ) → v < 2 ^ 64 → (71 - leadingZeros 64 (v / 2)) / 7 ≡ length (shortest v)
+pub lowest-set : (v : ℕ) → bitOr v 1 ≡ 2 * (v / 2) + 1
+lowest-set v = omega (arith, or-add-and v 1, and-mask v 1)
+
+pub zeros-groups : (v : ℕ) → v < 2 ^ 64 → (640 - 9 * leadingZeros 64 (bitOr v 1)) / 64 ≡ length (shortest v)
 zeros-groups v h =
-    let l = leading-length 64 (v / 2) (omega arith) in
-    let bits : 71 - leadingZeros 64 (v / 2) ≡ l .0 + 7 = omega (arith, l .1) in
-    rw bits (sym (bits-groups v (l .0) (omega (arith, l .1)) (l .2) (l .3)))
+    let top = leading-top 64 (bitOr v 1) (omega (arith, lowest-set v)) (omega (arith, lowest-set v)) in
+    let below : v / 2 < 2 ^ top .0 = omega (arith, lowest-set v, top .3, pow-succ' 2 (top .0)) in
+    let above : 2 ^ top .0 ≤ 2 * (v / 2) + 1 = omega (arith, lowest-set v, top .2) in
+    omega (arith, top .1) ∙ sym (bits-groups v (top .0) (omega (arith, top .1)) below above)

@@ -252,13 +252,13 @@ pub fn zigzag(z: i64) -> u64
     }
 }
 
-// How many bytes the shortest form of a number takes: a group for each seven bits, and one at least. The half has a bit
-// fewer, and the length of 0 counts as 0.
+// How many bytes the shortest form of a number takes: a group for each seven bits. With its lowest bit set no number is 0, and
+// none has more groups; of b bits, 64 at most, a seventh rounded up is (64 + 9 * b) / 64.
 pub fn size(value: u64) -> usize
     ensures { λ r. ⌜ r ≡ length (definition.shortest value) ⌝ }
 {
-    let zeros = u64::leading_zeros(value >> 1) as usize;
-    (71 - zeros) / 7
+    let zeros = u64::leading_zeros(value | 1) as usize;
+    (640 - 9 * zeros) / 64
 }
 
 // The shortest form into the front of `out`; where it has no room nothing is touched.
