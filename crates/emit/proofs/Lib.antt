@@ -5,6 +5,7 @@ pub mod Texts
 pub mod Listing
 pub mod Sharing
 pub mod Stripping
+pub mod Fields
 pub mod Switching
 pub mod Nodes
 pub mod Growing

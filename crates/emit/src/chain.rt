@@ -10,8 +10,8 @@ ghost use Rattle.emit.specs.Puts.{Puts};
 ghost use Rattle.emit.specs.Ways.{rootIn, putStepIn, putChainIn, chainsIn};
 use crate::base::byte;
 use crate::base::number;
-use crate::places::chain_row;
-use crate::places::step_row;
+use crate::places::row_of_eleven;
+use crate::places::row_of_nine;
 use crate::words::index;
 use crate::words::octet;
 use crate::words::position;
@@ -114,7 +114,7 @@ pub fn step_list(out: &mut [u8], at: usize, strip: bool, t: &[u64], from: usize,
     let mut place = number(out, at, n as u64);
     let mut j = from;
     while j < end {
-        place = step(out, place, strip, step_row(t, j));
+        place = step(out, place, strip, row_of_eleven(t, j));
         j += 1;
     }
     place
@@ -147,7 +147,7 @@ pub fn chains(
     let mut from: usize = 0;
     let mut j: usize = 0;
     while j < used {
-        let row = chain_row(t, j);
+        let row = row_of_nine(t, j);
         place = chain(out, place, strip, row, steps, from);
         from += row[6] as usize;
         j += 1;

@@ -8,12 +8,11 @@ ghost use Rattle.model.specs.Lent.{clip};
 ghost use Rattle.model.specs.Tables.{assignMeans};
 ghost use Rattle.emit.specs.Puts.{Puts};
 use crate::base::number;
-use crate::base::text;
-use crate::places::assign_at;
-use crate::places::end_at;
-use crate::places::token_at;
-use crate::records::name;
-use format::records::Assign;
+use crate::places::row_of_one;
+use crate::places::row_of_six;
+use crate::places::row_of_two;
+use crate::words::index;
+use crate::words::text;
 
 pub fn name_ends(out: &mut [u8], at: usize, t: &[u64], used: usize) -> usize
     requires { ⌜ used * 1 ≤ length (now t) ⌝ }
@@ -22,7 +21,8 @@ pub fn name_ends(out: &mut [u8], at: usize, t: &[u64], used: usize) -> usize
     let mut place = number(out, at, used as u64);
     let mut j = 0;
     while j < used {
-        place = number(out, place, end_at(t, j) as u64);
+        let row = row_of_one(t, j);
+        place = index(out, place, row[0]);
         j += 1;
     }
     place
@@ -35,24 +35,21 @@ pub fn tokens(out: &mut [u8], at: usize, t: &[u64], used: usize, s: &[u8]) -> us
     let mut place = number(out, at, used as u64);
     let mut j = 0;
     while j < used {
-        place = text(out, place, s, token_at(t, j));
+        let row = row_of_two(t, j);
+        place = text(out, place, s, row[0], row[1]);
         j += 1;
     }
     place
 }
 
 // Token, name index, token, name index.
-fn assign(out: &mut [u8], at: usize, s: &[u8], a: Assign) -> usize
-    ensures { λ r. ⌜ Puts (definition.putAssign (assignMeans (now (s .entry)) a)) (now (out .entry)) at (now (out .exit)) r ⌝ }
+fn assign(out: &mut [u8], at: usize, s: &[u8], row: [u64; 6]) -> usize
+    ensures { λ r. ⌜ Puts (definition.putAssign (assignMeans (now (s .entry)) (assignOf row))) (now (out .entry)) at (now (out .exit)) r ⌝ }
 {
-    let first = a.op_assign;
-    let first_name = a.op_assign_name;
-    let second = a.op;
-    let second_name = a.op_name;
-    let token = text(out, at, s, first);
-    let named = name(out, token, first_name);
-    let other = text(out, named, s, second);
-    name(out, other, second_name)
+    let token = text(out, at, s, row[0], row[1]);
+    let named = index(out, token, row[2]);
+    let other = text(out, named, s, row[3], row[4]);
+    index(out, other, row[5])
 }
 
 pub fn assigns(out: &mut [u8], at: usize, t: &[u64], used: usize, s: &[u8]) -> usize
@@ -62,7 +59,7 @@ pub fn assigns(out: &mut [u8], at: usize, t: &[u64], used: usize, s: &[u8]) -> u
     let mut place = number(out, at, used as u64);
     let mut j = 0;
     while j < used {
-        place = assign(out, place, s, assign_at(t, j));
+        place = assign(out, place, s, row_of_six(t, j));
         j += 1;
     }
     place

@@ -1,15 +1,8 @@
-// What stands in several sections.
+// What stands outside the tables.
 ghost use Rattle.written.specs.Put as definition;
 ghost use Rattle.emit.specs.Puts.{Puts};
 use crate::base::number;
 use format::records::Chunk;
-use format::records::NameIndex;
-
-pub fn name(out: &mut [u8], at: usize, n: NameIndex) -> usize
-    ensures { λ r. ⌜ Puts (definition.putName n) (now (out .entry)) at (now (out .exit)) r ⌝ }
-{
-    number(out, at, n.0 as u64)
-}
 
 pub fn chunk(out: &mut [u8], at: usize, c: Chunk) -> usize
     ensures { λ r. ⌜ Puts (definition.putChunk c) (now (out .entry)) at (now (out .exit)) r ⌝ }

@@ -1,49 +1,35 @@
-// Switches: cases and ranges.
-ghost use mathlib.Core.List.{[], _∷_};
-ghost use Rattle.grammar.specs.Combinators.{if_then_else_};
+// Switches, cases and ranges, from the words of their rows.
 ghost use Prim.Native.Nat.{_+_, _*_, _≤_};
 ghost use lib.ListN.{length, drop};
-ghost use Rattle.rows.specs.Back.{recordsOf, caseOf, rangeOf};
+ghost use Rattle.rows.specs.Back.{recordsOf, switchOf, caseOf, rangeOf};
 ghost use Rattle.written.specs.Put as definition;
 ghost use Rattle.emit.specs.Shares.{SharesFit, switchFrom, switchesOf};
 ghost use Rattle.emit.specs.Puts.{Puts};
-use crate::base::byte;
 use crate::base::number;
-use crate::base::signed;
-use crate::places::case_at;
-use crate::places::range_at;
-use crate::places::switch_at;
-use format::records::Case;
-use format::records::Range;
-use format::records::Switch;
+use crate::places::row_of_four;
+use crate::places::row_of_three;
+use crate::places::row_of_two;
+use crate::words::flag;
+use crate::words::index;
+use crate::words::signed;
 
-pub fn case(out: &mut [u8], at: usize, c: Case) -> usize
-    ensures { λ r. ⌜ Puts (definition.putCase c) (now (out .entry)) at (now (out .exit)) r ⌝ }
+fn case(out: &mut [u8], at: usize, row: [u64; 2]) -> usize
+    ensures { λ r. ⌜ Puts (definition.putCase (caseOf row)) (now (out .entry)) at (now (out .exit)) r ⌝ }
 {
-    let behind = number(out, at, c.blocks as u64);
-    number(out, behind, c.constant.0 as u64)
+    let behind = index(out, at, row[0]);
+    index(out, behind, row[1])
 }
 
-fn inclusive(out: &mut [u8], at: usize, yes: bool) -> usize
-    ensures { λ r. ⌜ Puts ((if yes then 1 else 0) ∷ []) (now (out .entry)) at (now (out .exit)) r ⌝ }
+fn range(out: &mut [u8], at: usize, row: [u64; 4]) -> usize
+    ensures { λ r. ⌜ Puts (definition.putRange (rangeOf row)) (now (out .entry)) at (now (out .exit)) r ⌝ }
 {
-    if yes {
-        byte(out, at, 1)
-    } else {
-        byte(out, at, 0)
-    }
+    let from = signed(out, at, row[0]);
+    let to = signed(out, from, row[1]);
+    let told = flag(out, to, row[2]);
+    index(out, told, row[3])
 }
 
-pub fn range(out: &mut [u8], at: usize, g: Range) -> usize
-    ensures { λ r. ⌜ Puts (definition.putRange g) (now (out .entry)) at (now (out .exit)) r ⌝ }
-{
-    let from = signed(out, at, g.from);
-    let to = signed(out, from, g.to);
-    let told = inclusive(out, to, g.inclusive);
-    number(out, told, g.target as u64)
-}
-
-pub fn case_list(out: &mut [u8], at: usize, t: &[u64], from: usize, n: usize) -> usize
+fn case_list(out: &mut [u8], at: usize, t: &[u64], from: usize, n: usize) -> usize
     requires { ⌜ (from + n) * 2 ≤ length (now t) ⌝ }
     ensures { λ r. ⌜ Puts (definition.putList definition.putCase (recordsOf 2 caseOf n (drop (from * 2) (now (t .entry))))) (now (out .entry)) at (now (out .exit)) r ⌝ }
 {
@@ -51,13 +37,13 @@ pub fn case_list(out: &mut [u8], at: usize, t: &[u64], from: usize, n: usize) ->
     let mut place = number(out, at, n as u64);
     let mut j = from;
     while j < end {
-        place = case(out, place, case_at(t, j));
+        place = case(out, place, row_of_two(t, j));
         j += 1;
     }
     place
 }
 
-pub fn range_list(out: &mut [u8], at: usize, t: &[u64], from: usize, n: usize) -> usize
+fn range_list(out: &mut [u8], at: usize, t: &[u64], from: usize, n: usize) -> usize
     requires { ⌜ (from + n) * 4 ≤ length (now t) ⌝ }
     ensures { λ r. ⌜ Puts (definition.putList definition.putRange (recordsOf 4 rangeOf n (drop (from * 4) (now (t .entry))))) (now (out .entry)) at (now (out .exit)) r ⌝ }
 {
@@ -65,7 +51,7 @@ pub fn range_list(out: &mut [u8], at: usize, t: &[u64], from: usize, n: usize) -
     let mut place = number(out, at, n as u64);
     let mut j = from;
     while j < end {
-        place = range(out, place, range_at(t, j));
+        place = range(out, place, row_of_four(t, j));
         j += 1;
     }
     place
@@ -75,19 +61,19 @@ pub fn range_list(out: &mut [u8], at: usize, t: &[u64], from: usize, n: usize) -
 fn switch(
     out: &mut [u8],
     at: usize,
-    w: Switch,
+    row: [u64; 3],
     cases: &[u64],
     from: usize,
     ranges: &[u64],
     behind: usize,
 ) -> usize
-    requires { ⌜ (from + w .cases) * 2 ≤ length (now cases) ⌝ }
-    requires { ⌜ (behind + w .ranges) * 4 ≤ length (now ranges) ⌝ }
-    ensures { λ r. ⌜ Puts (definition.putSwitch (switchFrom w (now (cases .entry)) from (now (ranges .entry)) behind)) (now (out .entry)) at (now (out .exit)) r ⌝ }
+    requires { ⌜ (from + switchOf row .cases) * 2 ≤ length (now cases) ⌝ }
+    requires { ⌜ (behind + switchOf row .ranges) * 4 ≤ length (now ranges) ⌝ }
+    ensures { λ r. ⌜ Puts (definition.putSwitch (switchFrom (switchOf row) (now (cases .entry)) from (now (ranges .entry)) behind)) (now (out .entry)) at (now (out .exit)) r ⌝ }
 {
-    let listed = case_list(out, at, cases, from, w.cases as usize);
-    let ranged = range_list(out, listed, ranges, behind, w.ranges as usize);
-    number(out, ranged, w.default as u64)
+    let listed = case_list(out, at, cases, from, row[0] as usize);
+    let ranged = range_list(out, listed, ranges, behind, row[1] as usize);
+    index(out, ranged, row[2])
 }
 
 pub fn switches(
@@ -107,10 +93,10 @@ pub fn switches(
     let mut behind: usize = 0;
     let mut j: usize = 0;
     while j < used {
-        let w = switch_at(t, j);
-        place = switch(out, place, w, cases, from, ranges, behind);
-        from += w.cases as usize;
-        behind += w.ranges as usize;
+        let row = row_of_three(t, j);
+        place = switch(out, place, row, cases, from, ranges, behind);
+        from += row[0] as usize;
+        behind += row[1] as usize;
         j += 1;
     }
     place

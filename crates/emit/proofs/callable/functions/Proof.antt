@@ -1,6 +1,6 @@
 -- The records before j are put, each with its share of the items (`Sharing`).
 use Prim.Native.Nat.{_-_}
-use mathlib.Core.Path.{refl, _∙_}
+use mathlib.Core.Path.{refl, _∙_, ap}
 use Rattle.grammar.specs.Combinators.{putAll}
 use Rattle.written.specs.Put.{putFunction}
 use Rattle.rows.specs.Back.{functionOf, parameterOf}
@@ -23,14 +23,17 @@ number-requires c κs = search needs
 loop-holds : tie.Need-loop-holds Inv-loop μ-loop
 loop-holds c = sharing-none (c .before .before .before .before .before .before .before .pre) (c .before .before .number .ensures)
 
-function-at-requires : tie.Need-function-at-requires Inv-loop μ-loop
-function-at-requires c κs = sharing-row (c .before .loop .inv) (c .loop-test .taken)
+row-of-seven-requires : tie.Need-row-of-seven-requires Inv-loop μ-loop
+row-of-seven-requires c κs = sharing-row (c .before .loop .inv) (c .loop-test .taken)
 
 function-requires : tie.Need-function-requires Inv-loop μ-loop
-function-requires c κs = sharing-items (c .before .before .before .loop .inv) (λ row. refl) (c .before .before .loop-test .taken) (c .before .function-at .ensures)
+function-requires c κs = sharing-items (c .before .before .before .loop .inv) (λ row. refl) (c .before .before .loop-test .taken) (ap functionOf (c .before .row-of-seven .ensures))
+
+array-read-from : tie.Need-array-read-from Inv-loop μ-loop
+array-read-from c = search needs
 
 add-from : tie.Need-add-from Inv-loop μ-loop
-add-from c = omega (arith, sharing-items (c .before .before .before .before .before .before .loop .inv) (λ row. refl) (c .before .before .before .before .before .loop-test .taken) (c .before .before .before .before .function-at .ensures))
+add-from c = omega (arith, sharing-items (c .before .before .before .before .before .before .loop .inv) (λ row. refl) (c .before .before .before .before .before .loop-test .taken) (ap functionOf (c .before .before .before .before .row-of-seven .ensures)))
 
 add-j : tie.Need-add-j Inv-loop μ-loop
 add-j c = search needs
@@ -39,7 +42,7 @@ loop-less : tie.Need-loop-less Inv-loop μ-loop
 loop-less c = search needs
 
 loop-again : tie.Need-loop-again Inv-loop μ-loop
-loop-again c = sharing-more (c .before .before .before .before .before .before .loop .inv) (λ row. refl) (c .before .before .before .before .before .loop-test .taken) (c .before .before .before .before .function-at .ensures) (c .before .before .function .ensures)
+loop-again c = sharing-more (c .before .before .before .before .before .before .loop .inv) (λ row. refl) (c .before .before .before .before .before .loop-test .taken) (ap functionOf (c .before .before .before .before .row-of-seven .ensures)) (c .before .before .function .ensures)
 
 same-length : tie.Need-same-length Inv-loop μ-loop
 same-length c = c .before .loop .inv .going .same ∙ c .before .before .before .before .number .ensures .kept
@@ -55,8 +58,9 @@ functions-spec =
     μ-loop
     number-requires
     loop-holds
-    function-at-requires
+    row-of-seven-requires
     function-requires
+    array-read-from
     add-from
     add-j
     loop-less

@@ -6,6 +6,7 @@ use Rattle.grammar.specs.Combinators.{putAll}
 use Rattle.written.specs.Put.{putName}
 use Rattle.rows.specs.Back.{recordsOf, parameterOf}
 use Rattle.emit.proofs.Listing.{Listing, listing-from, listing-row, listing-more, listed-from}
+use Rattle.emit.proofs.callable.parameter_list.Tie as tie
 use borrow.Author.Needs.{needs}
 use Rattle.emit.proofs.callable.parameter_list.Statement.{statement}
 use Rattle.emit.proofs.callable.parameter_list.Tie as tie
@@ -25,11 +26,14 @@ number-requires c κs = search needs
 loop-holds : tie.Need-loop-holds Inv-loop μ-loop
 loop-holds c = listing-from (c .before .before .before .before .before .before .args .from) (c .before .before .before .before .before .before .args .n) (c .before .before .before .before .before .before .pre) (c .before .before .number .ensures)
 
-parameter-at-requires : tie.Need-parameter-at-requires Inv-loop μ-loop
-parameter-at-requires c κs = listing-row (c .before .before .loop .inv) (c .before .loop-test .taken)
+row-of-one-requires : tie.Need-row-of-one-requires Inv-loop μ-loop
+row-of-one-requires c κs = listing-row (c .before .loop .inv) (c .loop-test .taken)
 
-name-requires : tie.Need-name-requires Inv-loop μ-loop
-name-requires c κs = search needs
+array-read-index : tie.Need-array-read-index Inv-loop μ-loop
+array-read-index c = search needs
+
+index-requires : tie.Need-index-requires Inv-loop μ-loop
+index-requires c κs = search needs
 
 add-j : tie.Need-add-j Inv-loop μ-loop
 add-j c = search needs
@@ -38,7 +42,7 @@ loop-less : tie.Need-loop-less Inv-loop μ-loop
 loop-less c = search needs
 
 loop-again : tie.Need-loop-again Inv-loop μ-loop
-loop-again c = listing-more (c .before .before .before .before .before .before .loop .inv) (c .before .before .before .before .before .loop-test .taken) (rw (c .before .before .before .parameter-at .ensures) at (c .before .before .name .ensures))
+loop-again c = listing-more (c .before .before .before .before .before .before .loop .inv) (c .before .before .before .before .before .loop-test .taken) (rw (c .before .before .before .before .row-of-one .ensures) at (c .before .before .index .ensures))
 
 same-length : tie.Need-same-length Inv-loop μ-loop
 same-length c = c .before .loop .inv .going .same ∙ c .before .before .before .before .number .ensures .kept
@@ -55,8 +59,9 @@ parameter-list-spec =
     add-end
     number-requires
     loop-holds
-    parameter-at-requires
-    name-requires
+    row-of-one-requires
+    array-read-index
+    index-requires
     add-j
     loop-less
     loop-again

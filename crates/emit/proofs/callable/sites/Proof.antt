@@ -1,6 +1,6 @@
 -- The records before j are put, each with its share of the items (`Sharing`).
 use Prim.Native.Nat.{_-_}
-use mathlib.Core.Path.{refl, _∙_}
+use mathlib.Core.Path.{refl, _∙_, ap}
 use Rattle.grammar.specs.Combinators.{putAll}
 use Rattle.written.specs.Put.{putSite}
 use Rattle.rows.specs.Back.{siteOf, inputOf}
@@ -23,14 +23,17 @@ number-requires c κs = search needs
 loop-holds : tie.Need-loop-holds Inv-loop μ-loop
 loop-holds c = sharing-none (c .before .before .before .before .before .before .before .pre) (c .before .before .number .ensures)
 
-site-at-requires : tie.Need-site-at-requires Inv-loop μ-loop
-site-at-requires c κs = sharing-row (c .before .loop .inv) (c .loop-test .taken)
+row-of-three-requires : tie.Need-row-of-three-requires Inv-loop μ-loop
+row-of-three-requires c κs = sharing-row (c .before .loop .inv) (c .loop-test .taken)
 
 site-requires : tie.Need-site-requires Inv-loop μ-loop
-site-requires c κs = sharing-items (c .before .before .before .loop .inv) (λ row. refl) (c .before .before .loop-test .taken) (c .before .site-at .ensures)
+site-requires c κs = sharing-items (c .before .before .before .loop .inv) (λ row. refl) (c .before .before .loop-test .taken) (ap siteOf (c .before .row-of-three .ensures))
+
+array-read-from : tie.Need-array-read-from Inv-loop μ-loop
+array-read-from c = search needs
 
 add-from : tie.Need-add-from Inv-loop μ-loop
-add-from c = omega (arith, sharing-items (c .before .before .before .before .before .before .loop .inv) (λ row. refl) (c .before .before .before .before .before .loop-test .taken) (c .before .before .before .before .site-at .ensures))
+add-from c = omega (arith, sharing-items (c .before .before .before .before .before .before .loop .inv) (λ row. refl) (c .before .before .before .before .before .loop-test .taken) (ap siteOf (c .before .before .before .before .row-of-three .ensures)))
 
 add-j : tie.Need-add-j Inv-loop μ-loop
 add-j c = search needs
@@ -39,7 +42,7 @@ loop-less : tie.Need-loop-less Inv-loop μ-loop
 loop-less c = search needs
 
 loop-again : tie.Need-loop-again Inv-loop μ-loop
-loop-again c = sharing-more (c .before .before .before .before .before .before .loop .inv) (λ row. refl) (c .before .before .before .before .before .loop-test .taken) (c .before .before .before .before .site-at .ensures) (c .before .before .site .ensures)
+loop-again c = sharing-more (c .before .before .before .before .before .before .loop .inv) (λ row. refl) (c .before .before .before .before .before .loop-test .taken) (ap siteOf (c .before .before .before .before .row-of-three .ensures)) (c .before .before .site .ensures)
 
 same-length : tie.Need-same-length Inv-loop μ-loop
 same-length c = c .before .loop .inv .going .same ∙ c .before .before .before .before .number .ensures .kept
@@ -55,8 +58,9 @@ sites-spec =
     μ-loop
     number-requires
     loop-holds
-    site-at-requires
+    row-of-three-requires
     site-requires
+    array-read-from
     add-from
     add-j
     loop-less

@@ -25,17 +25,17 @@ number-requires c κs = search needs
 loop-holds : tie.Need-loop-holds Inv-loop μ-loop
 loop-holds c = sharing-none (c .before .before .before .before .before .before .before .pre) (c .before .before .number .ensures)
 
-chain-row-requires : tie.Need-chain-row-requires Inv-loop μ-loop
-chain-row-requires c κs = sharing-row (c .before .loop .inv) (c .loop-test .taken)
+row-of-nine-requires : tie.Need-row-of-nine-requires Inv-loop μ-loop
+row-of-nine-requires c κs = sharing-row (c .before .loop .inv) (c .loop-test .taken)
 
 chain-requires : tie.Need-chain-requires Inv-loop μ-loop
-chain-requires c κs = sharing-items (c .before .before .before .loop .inv) (λ row. refl) (c .before .before .loop-test .taken) (ap chainOf (c .before .chain-row .ensures))
+chain-requires c κs = sharing-items (c .before .before .before .loop .inv) (λ row. refl) (c .before .before .loop-test .taken) (ap chainOf (c .before .row-of-nine .ensures))
 
 array-read-from : tie.Need-array-read-from Inv-loop μ-loop
 array-read-from c = search needs
 
 add-from : tie.Need-add-from Inv-loop μ-loop
-add-from c = omega (arith, sharing-items (c .before .before .before .before .before .before .loop .inv) (λ row. refl) (c .before .before .before .before .before .loop-test .taken) (ap chainOf (c .before .before .before .before .chain-row .ensures)))
+add-from c = omega (arith, sharing-items (c .before .before .before .before .before .before .loop .inv) (λ row. refl) (c .before .before .before .before .before .loop-test .taken) (ap chainOf (c .before .before .before .before .row-of-nine .ensures)))
 
 add-j : tie.Need-add-j Inv-loop μ-loop
 add-j c = search needs
@@ -44,7 +44,7 @@ loop-less : tie.Need-loop-less Inv-loop μ-loop
 loop-less c = search needs
 
 loop-again : tie.Need-loop-again Inv-loop μ-loop
-loop-again c = sharing-more (c .before .before .before .before .before .before .loop .inv) (λ row. refl) (c .before .before .before .before .before .loop-test .taken) (ap chainOf (c .before .before .before .before .chain-row .ensures)) (c .before .before .chain .ensures)
+loop-again c = sharing-more (c .before .before .before .before .before .before .loop .inv) (λ row. refl) (c .before .before .before .before .before .loop-test .taken) (ap chainOf (c .before .before .before .before .row-of-nine .ensures)) (c .before .before .chain .ensures)
 
 same-length : tie.Need-same-length Inv-loop μ-loop
 same-length c = c .before .loop .inv .going .same ∙ c .before .before .before .before .number .ensures .kept
@@ -60,7 +60,7 @@ chains-spec =
     μ-loop
     number-requires
     loop-holds
-    chain-row-requires
+    row-of-nine-requires
     chain-requires
     array-read-from
     add-from

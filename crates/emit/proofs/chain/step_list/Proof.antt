@@ -25,8 +25,8 @@ number-requires c κs = search needs
 loop-holds : tie.Need-loop-holds Inv-loop μ-loop
 loop-holds c = listing-from (c .before .before .before .before .before .before .args .from) (c .before .before .before .before .before .before .args .n) (c .before .before .before .before .before .before .pre) (c .before .before .number .ensures)
 
-step-row-requires : tie.Need-step-row-requires Inv-loop μ-loop
-step-row-requires c κs = listing-row (c .before .before .loop .inv) (c .before .loop-test .taken)
+row-of-eleven-requires : tie.Need-row-of-eleven-requires Inv-loop μ-loop
+row-of-eleven-requires c κs = listing-row (c .before .before .loop .inv) (c .before .loop-test .taken)
 
 step-requires : tie.Need-step-requires Inv-loop μ-loop
 step-requires c κs = search needs
@@ -38,7 +38,7 @@ loop-less : tie.Need-loop-less Inv-loop μ-loop
 loop-less c = search needs
 
 loop-again : tie.Need-loop-again Inv-loop μ-loop
-loop-again c = listing-more (c .before .before .before .before .before .before .loop .inv) (c .before .before .before .before .before .loop-test .taken) (rw (c .before .before .before .step-row .ensures) at (c .before .before .step .ensures))
+loop-again c = listing-more (c .before .before .before .before .before .before .loop .inv) (c .before .before .before .before .before .loop-test .taken) (rw (c .before .before .before .row-of-eleven .ensures) at (c .before .before .step .ensures))
 
 same-length : tie.Need-same-length Inv-loop μ-loop
 same-length c = c .before .loop .inv .going .same ∙ c .before .before .before .before .number .ensures .kept
@@ -55,7 +55,7 @@ step-list-spec =
     add-end
     number-requires
     loop-holds
-    step-row-requires
+    row-of-eleven-requires
     step-requires
     add-j
     loop-less

@@ -22,8 +22,8 @@ number-requires c κs = search needs
 loop-holds : tie.Need-loop-holds Inv-loop μ-loop
 loop-holds c = listing-all (c .before .before .before .before .before .before .before .args .used) (c .before .before .before .before .before .before .before .pre) (c .before .before .number .ensures)
 
-assign-at-requires : tie.Need-assign-at-requires Inv-loop μ-loop
-assign-at-requires c κs = listing-row (c .before .before .loop .inv) (c .before .loop-test .taken)
+row-of-six-requires : tie.Need-row-of-six-requires Inv-loop μ-loop
+row-of-six-requires c κs = listing-row (c .before .before .loop .inv) (c .before .loop-test .taken)
 
 assign-requires : tie.Need-assign-requires Inv-loop μ-loop
 assign-requires c κs = search needs
@@ -35,7 +35,7 @@ loop-less : tie.Need-loop-less Inv-loop μ-loop
 loop-less c = search needs
 
 loop-again : tie.Need-loop-again Inv-loop μ-loop
-loop-again c = listing-more (c .before .before .before .before .before .before .loop .inv) (c .before .before .before .before .before .loop-test .taken) (rw (c .before .before .before .assign-at .ensures) at (c .before .before .assign .ensures))
+loop-again c = listing-more (c .before .before .before .before .before .before .loop .inv) (c .before .before .before .before .before .loop-test .taken) (rw (c .before .before .before .row-of-six .ensures) at (c .before .before .assign .ensures))
 
 same-length : tie.Need-same-length Inv-loop μ-loop
 same-length c = c .before .loop .inv .going .same ∙ c .before .before .before .before .number .ensures .kept
@@ -51,7 +51,7 @@ assigns-spec =
     μ-loop
     number-requires
     loop-holds
-    assign-at-requires
+    row-of-six-requires
     assign-requires
     add-j
     loop-less

@@ -5,6 +5,7 @@ use Rattle.grammar.specs.Combinators.{putAll}
 use Rattle.grammar.specs.Number.{shortest}
 use Rattle.rows.specs.Back.{recordsOf, endOf}
 use Rattle.emit.proofs.Listing.{Listing, listing-all, listing-row, listing-more, listed-all}
+use Rattle.emit.proofs.lists.name_ends.Tie as tie
 use borrow.Author.Needs.{needs}
 use Rattle.emit.proofs.lists.name_ends.Statement.{statement}
 use Rattle.emit.proofs.lists.name_ends.Tie as tie
@@ -21,14 +22,14 @@ number-requires c κs = search needs
 loop-holds : tie.Need-loop-holds Inv-loop μ-loop
 loop-holds c = listing-all (c .before .before .before .before .before .before .args .used) (c .before .before .before .before .before .before .pre) (c .before .before .number .ensures)
 
-end-at-requires : tie.Need-end-at-requires Inv-loop μ-loop
-end-at-requires c κs = listing-row (c .before .before .loop .inv) (c .before .loop-test .taken)
+row-of-one-requires : tie.Need-row-of-one-requires Inv-loop μ-loop
+row-of-one-requires c κs = listing-row (c .before .loop .inv) (c .loop-test .taken)
 
-cast-number : tie.Need-cast-number Inv-loop μ-loop
-cast-number c = search needs
+array-read-index : tie.Need-array-read-index Inv-loop μ-loop
+array-read-index c = search needs
 
-number-requires-2 : tie.Need-number-requires-2 Inv-loop μ-loop
-number-requires-2 c κs = search needs
+index-requires : tie.Need-index-requires Inv-loop μ-loop
+index-requires c κs = search needs
 
 add-j : tie.Need-add-j Inv-loop μ-loop
 add-j c = search needs
@@ -37,7 +38,7 @@ loop-less : tie.Need-loop-less Inv-loop μ-loop
 loop-less c = search needs
 
 loop-again : tie.Need-loop-again Inv-loop μ-loop
-loop-again c = listing-more (c .before .before .before .before .before .before .loop .inv) (c .before .before .before .before .before .loop-test .taken) (rw (c .before .before .before .end-at .ensures) at (c .before .before .number2 .ensures))
+loop-again c = listing-more (c .before .before .before .before .before .before .loop .inv) (c .before .before .before .before .before .loop-test .taken) (rw (c .before .before .before .before .row-of-one .ensures) at (c .before .before .index .ensures))
 
 same-length : tie.Need-same-length Inv-loop μ-loop
 same-length c = c .before .loop .inv .going .same ∙ c .before .before .before .before .number .ensures .kept
@@ -53,9 +54,9 @@ name-ends-spec =
     μ-loop
     number-requires
     loop-holds
-    end-at-requires
-    cast-number
-    number-requires-2
+    row-of-one-requires
+    array-read-index
+    index-requires
     add-j
     loop-less
     loop-again

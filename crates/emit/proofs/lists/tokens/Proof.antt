@@ -6,6 +6,7 @@ use Rattle.written.specs.Put.{putBytes}
 use Rattle.model.specs.Lent.{clip}
 use Rattle.rows.specs.Back.{recordsOf, spanOf}
 use Rattle.emit.proofs.Listing.{Listing, listing-all, listing-row, listing-more, listed-all}
+use Rattle.emit.proofs.lists.tokens.Tie as tie
 use borrow.Author.Needs.{needs}
 use Rattle.emit.proofs.lists.tokens.Statement.{statement}
 use Rattle.emit.proofs.lists.tokens.Tie as tie
@@ -22,8 +23,14 @@ number-requires c κs = search needs
 loop-holds : tie.Need-loop-holds Inv-loop μ-loop
 loop-holds c = listing-all (c .before .before .before .before .before .before .before .args .used) (c .before .before .before .before .before .before .before .pre) (c .before .before .number .ensures)
 
-token-at-requires : tie.Need-token-at-requires Inv-loop μ-loop
-token-at-requires c κs = listing-row (c .before .before .loop .inv) (c .before .loop-test .taken)
+row-of-two-requires : tie.Need-row-of-two-requires Inv-loop μ-loop
+row-of-two-requires c κs = listing-row (c .before .loop .inv) (c .loop-test .taken)
+
+array-read-text : tie.Need-array-read-text Inv-loop μ-loop
+array-read-text c = search needs
+
+array-read-text-2 : tie.Need-array-read-text-2 Inv-loop μ-loop
+array-read-text-2 c = search needs
 
 text-requires : tie.Need-text-requires Inv-loop μ-loop
 text-requires c κs = search needs
@@ -35,7 +42,7 @@ loop-less : tie.Need-loop-less Inv-loop μ-loop
 loop-less c = search needs
 
 loop-again : tie.Need-loop-again Inv-loop μ-loop
-loop-again c = listing-more (c .before .before .before .before .before .before .loop .inv) (c .before .before .before .before .before .loop-test .taken) (rw (c .before .before .before .token-at .ensures) at (c .before .before .text .ensures))
+loop-again c = listing-more (c .before .before .before .before .before .before .loop .inv) (c .before .before .before .before .before .loop-test .taken) (rw (c .before .before .before .before .row-of-two .ensures) at (c .before .before .text .ensures))
 
 same-length : tie.Need-same-length Inv-loop μ-loop
 same-length c = c .before .loop .inv .going .same ∙ c .before .before .before .before .number .ensures .kept
@@ -51,7 +58,9 @@ tokens-spec =
     μ-loop
     number-requires
     loop-holds
-    token-at-requires
+    row-of-two-requires
+    array-read-text
+    array-read-text-2
     text-requires
     add-j
     loop-less

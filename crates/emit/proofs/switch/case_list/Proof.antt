@@ -25,8 +25,8 @@ number-requires c κs = search needs
 loop-holds : tie.Need-loop-holds Inv-loop μ-loop
 loop-holds c = listing-from (c .before .before .before .before .before .before .args .from) (c .before .before .before .before .before .before .args .n) (c .before .before .before .before .before .before .pre) (c .before .before .number .ensures)
 
-case-at-requires : tie.Need-case-at-requires Inv-loop μ-loop
-case-at-requires c κs = listing-row (c .before .before .loop .inv) (c .before .loop-test .taken)
+row-of-two-requires : tie.Need-row-of-two-requires Inv-loop μ-loop
+row-of-two-requires c κs = listing-row (c .before .before .loop .inv) (c .before .loop-test .taken)
 
 case-requires : tie.Need-case-requires Inv-loop μ-loop
 case-requires c κs = search needs
@@ -38,7 +38,7 @@ loop-less : tie.Need-loop-less Inv-loop μ-loop
 loop-less c = search needs
 
 loop-again : tie.Need-loop-again Inv-loop μ-loop
-loop-again c = listing-more (c .before .before .before .before .before .before .loop .inv) (c .before .before .before .before .before .loop-test .taken) (rw (c .before .before .before .case-at .ensures) at (c .before .before .case .ensures))
+loop-again c = listing-more (c .before .before .before .before .before .before .loop .inv) (c .before .before .before .before .before .loop-test .taken) (rw (c .before .before .before .row-of-two .ensures) at (c .before .before .case .ensures))
 
 same-length : tie.Need-same-length Inv-loop μ-loop
 same-length c = c .before .loop .inv .going .same ∙ c .before .before .before .before .number .ensures .kept
@@ -55,7 +55,7 @@ case-list-spec =
     add-end
     number-requires
     loop-holds
-    case-at-requires
+    row-of-two-requires
     case-requires
     add-j
     loop-less

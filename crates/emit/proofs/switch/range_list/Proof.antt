@@ -25,8 +25,8 @@ number-requires c κs = search needs
 loop-holds : tie.Need-loop-holds Inv-loop μ-loop
 loop-holds c = listing-from (c .before .before .before .before .before .before .args .from) (c .before .before .before .before .before .before .args .n) (c .before .before .before .before .before .before .pre) (c .before .before .number .ensures)
 
-range-at-requires : tie.Need-range-at-requires Inv-loop μ-loop
-range-at-requires c κs = listing-row (c .before .before .loop .inv) (c .before .loop-test .taken)
+row-of-four-requires : tie.Need-row-of-four-requires Inv-loop μ-loop
+row-of-four-requires c κs = listing-row (c .before .before .loop .inv) (c .before .loop-test .taken)
 
 range-requires : tie.Need-range-requires Inv-loop μ-loop
 range-requires c κs = search needs
@@ -38,7 +38,7 @@ loop-less : tie.Need-loop-less Inv-loop μ-loop
 loop-less c = search needs
 
 loop-again : tie.Need-loop-again Inv-loop μ-loop
-loop-again c = listing-more (c .before .before .before .before .before .before .loop .inv) (c .before .before .before .before .before .loop-test .taken) (rw (c .before .before .before .range-at .ensures) at (c .before .before .range .ensures))
+loop-again c = listing-more (c .before .before .before .before .before .before .loop .inv) (c .before .before .before .before .before .loop-test .taken) (rw (c .before .before .before .row-of-four .ensures) at (c .before .before .range .ensures))
 
 same-length : tie.Need-same-length Inv-loop μ-loop
 same-length c = c .before .loop .inv .going .same ∙ c .before .before .before .before .number .ensures .kept
@@ -55,7 +55,7 @@ range-list-spec =
     add-end
     number-requires
     loop-holds
-    range-at-requires
+    row-of-four-requires
     range-requires
     add-j
     loop-less

@@ -1,0 +1,13 @@
+-- 0 or not.
+use borrow.Author.Tests.{eq-eqb, ne-eqb}
+use Rattle.emit.proofs.words.bit.Statement.{statement}
+use Rattle.emit.proofs.words.bit.Tie as tie
+
+returns : tie.Need-returns
+returns c = rw (eq-eqb _ _ (c .if1 .taken))
+
+returns-2 : tie.Need-returns-2
+returns-2 c = rw (ne-eqb _ _ (c .if1 .left))
+
+pub bit-spec : {M : Type 1} → statement M
+bit-spec = tie.close (tie.spec returns returns-2)
