@@ -74,6 +74,10 @@ module _ (t : List ℕ) (used levels from n : ℕ) where
         pub reaching-next : {next : ℕ} → behind (rows next) ≡ within (levels - 1) items (rows (k + 1)) → Reaching next (left - 1)
         reaching-next e = record { same = this-row ∙ ap (λ (b : Behind). andThen b (within levels (left - 1))) (sym e) }
 
+        -- a row that owns nothing is passed alone
+        pub reaching-leaf : items ≡ 0 → Reaching (k + 1) (left - 1)
+        reaching-leaf none = reaching-next (sym (rw none (within-none (levels - 1) (rows (k + 1)))))
+
 -- of all rows, from the first on
 pub from-first : (t : List ℕ) (used levels tops : ℕ) {b : Behind} → b ≡ within levels tops (rowsFrom 8 t used 0) →
     notTooDeep b ≡ notTooDeep (within levels tops (cut 8 used t))

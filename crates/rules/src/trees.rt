@@ -141,8 +141,8 @@ pub enum Reached {
     TooDeep,
 }
 
-// Behind the next n constants from a place on. It calls itself for the items of each, with one level less: however deep the rows
-// say that they are, it stops where no level is left.
+// Behind the next n constants from a place on. It calls itself for the items of each that has some, with one level less: however
+// deep the rows say that they are, it stops where no level is left.
 fn reach(t: &[u64], used: usize, levels: usize, from: usize, n: u64) -> Reached
     requires { ⌜ used * 8 ≤ length (now t) ⌝ }
     ensures { λ r. ⌜ reachedIs (now (t .entry)) used r ≡ definition.within levels n (rowsFrom 8 (now (t .entry)) used from) ⌝ }
@@ -160,12 +160,16 @@ fn reach(t: &[u64], used: usize, levels: usize, from: usize, n: u64) -> Reached
             return Reached::At(k);
         }
         let items = owns(row::of_eight(t, k * 8));
-        match reach(t, used, levels - 1, k + 1, items) {
-            Reached::At(next) => {
-                k = next;
-            }
-            Reached::TooDeep => {
-                return Reached::TooDeep;
+        if items == 0 {
+            k += 1;
+        } else {
+            match reach(t, used, levels - 1, k + 1, items) {
+                Reached::At(next) => {
+                    k = next;
+                }
+                Reached::TooDeep => {
+                    return Reached::TooDeep;
+                }
             }
         }
         left -= 1;

@@ -1,5 +1,6 @@
--- It calls itself for the items of a constant, and the levels left fall. In the loop `Reaching`: some constants are behind, and the
--- others are still to come (Depth).
+-- It calls itself for the items of a constant that has some, and the levels left fall. In the loop `Reaching`: some constants are
+-- behind, and the others are still to come (Depth).
+use mathlib.Core.Logic.{⊎-elim}
 use mathlib.Core.Path.{_∙_, ap}
 use native.Mathlib.Omega.{arith}
 use borrow.Author.Needs.{needs}
@@ -7,7 +8,7 @@ use Rattle.model.specs.Rules.{owns}
 use Prim.Native.Nat.{ℕ, _<_}
 use borrow.Fn.Kinds.{In}
 use borrow.Fn.PlainCycle.{Measures, is, falls, and}
-use Rattle.rules.proofs.Depth.{reach-none, reach-deep, Reaching, reaching-none, reaching-paid, reaching-end, reaching-deep, reaching-next}
+use Rattle.rules.proofs.Depth.{reach-none, reach-deep, Reaching, reaching-none, reaching-paid, reaching-end, reaching-deep, reaching-next, reaching-leaf}
 use Rattle.rules.proofs.trees.reach.Reads as reach
 use Rattle.rules.proofs.trees.reach.Kinds as reach-kinds
 use Rattle.rules.proofs.trees.+reach.Lts-reach as reach-lts
@@ -56,14 +57,17 @@ reach-of-eight-requires t c κs = omega arith
 reach-owns-requires : (t : ℕ) → reach-lts.Need-owns-requires (reach-calls t) (reach-at t) reach.Post reach-Inv-loop reach-μ-loop
 reach-owns-requires t c κs = search needs
 
+reach-add-k : (t : ℕ) → reach-lts.Need-add-k (reach-calls t) (reach-at t) reach.Post reach-Inv-loop reach-μ-loop
+reach-add-k t c = omega arith
+
 reach-sub-reach : (t : ℕ) → reach-lts.Need-sub-reach (reach-calls t) (reach-at t) reach.Post reach-Inv-loop reach-μ-loop
-reach-sub-reach t c = omega (arith, c .before .before .before .before .before .if2 .left)
+reach-sub-reach t c = omega (arith, c .before .before .before .before .before .before .if2 .left)
 
 reach-add-reach : (t : ℕ) → reach-lts.Need-add-reach (reach-calls t) (reach-at t) reach.Post reach-Inv-loop reach-μ-loop
 reach-add-reach t c = omega arith
 
 reach-reach-requires : (t : ℕ) → reach-lts.Need-reach-requires (reach-calls t) (reach-at t) reach.Post reach-Inv-loop reach-μ-loop
-reach-reach-requires t c κs = (omega (arith, c .before .before .before .before .before .before .before .before .pre .0, c .before .before .before .before .before .if2 .left), c .before .before .before .before .before .before .before .before .pre .1)
+reach-reach-requires t c κs = (omega (arith, c .before .before .before .before .before .before .before .before .before .pre .0, c .before .before .before .before .before .before .if2 .left), c .before .before .before .before .before .before .before .before .before .pre .1)
 
 reach-enum-known-next : (t : ℕ) → reach-lts.Need-enum-known-next (reach-calls t) (reach-at t) reach.Post reach-Inv-loop reach-μ-loop
 reach-enum-known-next t c = search needs
@@ -73,21 +77,22 @@ reach-enum-told t c = search needs
 
 reach-returns-4 : (t : ℕ) → reach-lts.Need-returns-4 (reach-calls t) (reach-at t) reach.Post reach-Inv-loop reach-μ-loop
 reach-returns-4 t c =
-    reaching-deep _ _ _ _ _ (c .before .before .before .before .before .before .before .loop .inv) (c .before .before .before .before .before .before .before .before .if2 .left) (omega arith) (c .before .before .before .before .before .if3 .left)
-    (c .before .before .before .owns .ensures ∙ ap owns (c .before .before .before .before .of-eight .ensures))
+    reaching-deep _ _ _ _ _ (c .before .before .before .before .before .before .before .before .loop .inv) (c .before .before .before .before .before .before .before .before .before .if2 .left) (c .before .before .before .before .before .before .before .loop-test .taken) (c .before .before .before .before .before .before .if3 .left)
+    (c .before .before .before .before .owns .ensures ∙ ap owns (c .before .before .before .before .before .of-eight .ensures))
     (rw (c .enum-told .given .1) at (c .before .before .reach .ensures))
 
 reach-sub-left : (t : ℕ) → reach-lts.Need-sub-left (reach-calls t) (reach-at t) reach.Post reach-Inv-loop reach-μ-loop
-reach-sub-left t c = omega (arith, c .before .before .before .before .before .before .if3 .left)
+reach-sub-left t c = omega (arith, c .before .before .before .if3 .left)
 
 reach-loop-less : (t : ℕ) → reach-lts.Need-loop-less (reach-calls t) (reach-at t) reach.Post reach-Inv-loop reach-μ-loop
-reach-loop-less t c = omega (arith, c .before .before .before .before .before .before .if3 .left)
+reach-loop-less t c = omega (arith, c .before .before .before .if3 .left)
 
 reach-loop-again : (t : ℕ) → reach-lts.Need-loop-again (reach-calls t) (reach-at t) reach.Post reach-Inv-loop reach-μ-loop
 reach-loop-again t c =
-    reaching-next _ _ _ _ _ (c .before .before .before .before .before .before .before .before .loop .inv) (c .before .before .before .before .before .before .before .before .before .if2 .left) (omega arith) (c .before .before .before .before .before .before .if3 .left)
-    (c .before .before .before .before .owns .ensures ∙ ap owns (c .before .before .before .before .before .of-eight .ensures))
-    (rw (c .before .next .given .1) at (c .before .before .before .reach .ensures))
+    ⊎-elim
+    (λ w. rw (w .1) (reaching-leaf _ _ _ _ _ (c .before .before .before .before .before .loop .inv) (c .before .before .before .before .before .before .if2 .left) (c .before .before .before .before .loop-test .taken) (c .before .before .before .if3 .left) (c .before .owns .ensures ∙ ap owns (c .before .before .of-eight .ensures)) (w .0 .taken)))
+    (λ w. rw (w .5) (reaching-next _ _ _ _ _ (c .before .before .before .before .before .loop .inv) (c .before .before .before .before .before .before .if2 .left) (c .before .before .before .before .loop-test .taken) (c .before .before .before .if3 .left) (c .before .owns .ensures ∙ ap owns (c .before .before .of-eight .ensures)) (rw (w .3 .given .1) at (w .1 .ensures))))
+    (c .if4 .came)
 
 reach-returns-5 : (t : ℕ) → reach-lts.Need-returns-5 (reach-calls t) (reach-at t) reach.Post reach-Inv-loop reach-μ-loop
 reach-returns-5 t c = reaching-end _ _ _ _ _ (c .before .loop .inv) (c .before .before .if2 .left) (omega arith)
@@ -105,6 +110,7 @@ pub +reach-spec : {M : Type 1} → statement M
     (reach-mul-of-eight t)
     (reach-of-eight-requires t)
     (reach-owns-requires t)
+    (reach-add-k t)
     (reach-sub-reach t)
     (reach-add-reach t)
     (reach-reach-requires t)
