@@ -1,0 +1,46 @@
+-- How long a number is at most, and the laws of `Counts`.
+use Prim.Native.Nat.{ℕ, zero, suc, _+_, _/_, _%_, _≤_, min}
+use mathlib.Core.Path.{_≡_, refl, ap}
+use mathlib.Core.Bool.{Bool, true, false}
+use mathlib.Core.List.{List, [], _∷_, _++_}
+use native.Mathlib.Omega.{arith}
+use lib.Dec.{ltb}
+use lib.ListN.{length, length-append}
+use Rattle.grammar.specs.Combinators.{if_then_else_}
+use Rattle.grammar.specs.Number.{shortest, shortestIn}
+use Rattle.written.specs.Put.{putBytes}
+use Rattle.sizes.specs.Counts.{Counts}
+
+-- ── numbers ──
+
+more : (b : Bool) (x : ℕ) (l : List ℕ) {n : ℕ} → length l ≤ n → length (if b then x ∷ [] else (x % 128 + 128) ∷ l) ≤ suc n
+more true x l h = omega arith
+more false x l h = omega arith
+
+short-in : (n v : ℕ) → length (shortestIn n v) ≤ n
+unfolding shortestIn
+short-in zero v = omega arith
+short-in (suc n) v = more (ltb v 128) v (shortestIn n (v / 128)) (short-in n (v / 128))
+
+pub short : (v : ℕ) → length (shortest v) ≤ 10
+unfolding shortest
+short v = short-in 10 v
+
+-- ── places ──
+
+pub counts-same : {a b : List ℕ} {at next : ℕ} → length a ≡ length b → Counts a at next → Counts b at next
+counts-same same p = record { next = omega (arith, p .next) }
+
+pub counts-then : {a b : List ℕ} {at mid next : ℕ} → Counts a at mid → Counts b mid next → Counts (a ++ b) at next
+counts-then {a} {b} p q = record { next = rw (length-append a b) (omega (arith, p .next, q .next)) }
+
+-- nothing, and the place capped
+pub counts-none : {at next : ℕ} → next ≡ min (at + 0) 1048577 → Counts [] at next
+counts-none is = record { next = is }
+
+-- a count of bytes and the bytes
+pub text-counts : (bytes : List ℕ) {n size at mid next : ℕ} → n ≡ length bytes → size ≡ length (shortest n) → mid ≡ min (at + size) 1048577 →
+    next ≡ min (mid + n) 1048577 → Counts (putBytes bytes) at next
+text-counts bytes {n} {size} {at} {mid} is long first second =
+    let count : Counts (shortest (length bytes)) at mid = record { next = rw (← is, ← long) first } in
+    counts-then count (record { next = rw (← is) second })

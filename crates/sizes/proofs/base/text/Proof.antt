@@ -1,0 +1,25 @@
+-- The count, and the bytes behind it.
+use Rattle.model.specs.Lent.{clip}
+use Rattle.sizes.proofs.Laws.{text-counts}
+use borrow.Author.Needs.{needs}
+use Rattle.sizes.proofs.base.text.Statement.{statement}
+use Rattle.sizes.proofs.base.text.Tie as tie
+
+clipped-requires : tie.Need-clipped-requires
+clipped-requires c κs = search needs
+
+number-requires : tie.Need-number-requires
+number-requires c κs = search needs
+
+plus-requires : tie.Need-plus-requires
+plus-requires c κs = search needs
+
+plus-requires-2 : tie.Need-plus-requires-2
+plus-requires-2 c κs = search needs
+
+returns : tie.Need-returns
+returns c = text-counts (clip (c .before .before .before .before .before .args .s .now) (c .before .before .before .before .before .args .span)) (c .before .before .before .clipped .ensures) (c .before .before .number .ensures .0) (c .before .plus .ensures) (c .plus2 .ensures)
+
+pub text-spec : {M : Type 1} → statement M
+text-spec =
+    tie.close (tie.spec clipped-requires number-requires plus-requires plus-requires-2 returns)
