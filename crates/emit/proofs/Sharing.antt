@@ -120,7 +120,7 @@ module _ {X Y : Type 0} {put : With X Y → List ℕ} {i : ℕ} {count : X → �
   pub sharing-done : Sharing put i count w of iw itemOf t used items all e at j from out place → used ≤ j → Puts all e at out place
   sharing-done g h = onward-done (rw (between-none w of t j used h) at (g .going))
 
-length-shared : {X Y : Type 0} (count : X → ℕ) (xs : List X) (items : List Y) → length (shared count xs items) ≡ length xs
+pub length-shared : {X Y : Type 0} (count : X → ℕ) (xs : List X) (items : List Y) → length (shared count xs items) ≡ length xs
 length-shared count [] items = refl
 length-shared count (x ∷ xs) items = ap suc (length-shared count xs (drop (count x) items))
 

@@ -1,17 +1,23 @@
 -- Records and the items that they own: where the shares use the items exactly, all is as long as the records without their items and the
 -- items by themselves.
-use Prim.Native.Nat.{ℕ, zero, suc, _+_}
+use Prim.Native.Nat.{ℕ, zero, suc, _+_, min}
 use mathlib.Core.Path.{_≡_, refl, sym, _∙_, ap}
 use mathlib.Core.List.{List, [], _∷_, _++_, map}
 use native.Mathlib.Omega.{arith}
 use lib.ListN.{length, take, drop, length-append, length-take, length-drop}
 use Rattle.grammar.specs.Combinators.{putAll}
+use Rattle.grammar.specs.Number.{shortest}
 use Rattle.tables.specs.Table.{With}
 use Rattle.rows.specs.Back.{word, cut, recordsOf}
+use Rattle.written.specs.Put.{putList}
 use Rattle.model.specs.Rules.{total}
 use Rattle.model.specs.Tables.{shared}
 use Rattle.emit.specs.Shares.{owned, sharesOf}
 use Rattle.emit.proofs.Listing.{length-records}
+use Rattle.emit.proofs.Sharing.{length-shared}
+use Rattle.sizes.specs.Counts.{Counts}
+use Rattle.sizes.proofs.Laws.{counts-same, counts-then}
+use Rattle.sizes.proofs.Flat.{listed}
 
 -- ── lists in parts ──
 
@@ -56,3 +62,14 @@ module _ {X Y : Type 0} (put : With X Y → List ℕ) (own : X → List ℕ) (it
   shares-apart i w of used t iw itemOf items same =
       apart (recordsOf w of used t) (recordsOf iw itemOf (owned i w used t) items)
       (counts-total count of i same (cut w used t) ∙ sym (length-records iw itemOf (owned i w used t) items))
+
+  -- the count, the records without their items, and the items
+  pub shares-count : (i w : ℕ) (of : List ℕ → X) (used : ℕ) (t : List ℕ) (iw : ℕ) (itemOf : List ℕ → Y) (items : List ℕ) →
+      ((row : List ℕ) → count (of row) ≡ word row i) → {size at mid behind n next : ℕ} → size ≡ length (shortest used) → mid ≡ min (at + size) 1048577 →
+      Counts (putAll own (recordsOf w of used t)) mid behind → n ≡ owned i w used t → Counts (putAll item (recordsOf iw itemOf n items)) behind next →
+      Counts (putList put (sharesOf i count w of used t iw itemOf items)) at next
+  shares-count i w of used t iw itemOf items same {mid = mid} {behind = behind} {next = next} long first wholes exact rest =
+      let all : Counts (putAll own (recordsOf w of used t) ++ putAll item (recordsOf iw itemOf (owned i w used t) items)) mid next =
+      counts-then wholes (rw exact at rest) in
+      listed put used (sharesOf i count w of used t iw itemOf items) (length-shared count (recordsOf w of used t) _ ∙ length-records w of used t) long first
+      (counts-same (length-append (putAll own (recordsOf w of used t)) _ ∙ sym (shares-apart i w of used t iw itemOf items same)) all)

@@ -1,6 +1,6 @@
 -- How long a number is at most, and the laws of `Counts`.
 use Prim.Native.Nat.{ℕ, zero, suc, _+_, _/_, _%_, _≤_, min}
-use mathlib.Core.Path.{_≡_, refl, ap}
+use mathlib.Core.Path.{_≡_, refl, _∙_, ap}
 use mathlib.Core.Bool.{Bool, true, false}
 use mathlib.Core.List.{List, [], _∷_, _++_}
 use native.Mathlib.Omega.{arith}
@@ -44,3 +44,12 @@ pub text-counts : (bytes : List ℕ) {n size at mid next : ℕ} → n ≡ length
 text-counts bytes {n} {size} {at} {mid} is long first second =
     let count : Counts (shortest (length bytes)) at mid = record { next = rw (← is, ← long) first } in
     counts-then count (record { next = rw (← is) second })
+
+-- token, name, token, name: in whichever order they are counted
+pub assign-counts : (a b : List ℕ) (m n : ℕ) {at first second k l next : ℕ} → Counts (putBytes a) at first → Counts (putBytes b) first second →
+    k ≡ length (shortest m) → l ≡ length (shortest n) → next ≡ min (second + (k + l)) 1048577 →
+    Counts (putBytes a ++ (shortest m ++ (putBytes b ++ shortest n))) at next
+assign-counts a b m n p q k l is =
+    let all : length (putBytes a ++ (shortest m ++ (putBytes b ++ shortest n))) ≡ length (putBytes a) + (length (shortest m) + (length (putBytes b) + length (shortest n))) =
+    length-append (putBytes a) _ ∙ ap (λ (z : ℕ). length (putBytes a) + z) (length-append (shortest m) _ ∙ ap (λ (z : ℕ). length (shortest m) + z) (length-append (putBytes b) (shortest n))) in
+    record { next = rw all (omega (arith, p .next, q .next)) }

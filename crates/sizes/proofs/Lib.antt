@@ -3,3 +3,4 @@ pub mod Laws
 pub mod Wide
 pub mod Flat
 pub mod Apart
+pub mod Steps

@@ -16,6 +16,7 @@ const PAST: usize = Limit::BYTES + 1;
 // What is one thing or the other; both are known, so that nothing waits for the test.
 pub fn choose(yes: bool, n: usize, other: usize) -> usize
     ensures { λ r. ⌜ r ≡ (if yes then n else other) ⌝ }
+    ensures { λ r. ⌜ r ≤ n + other ⌝ }
 {
     if yes { n } else { other }
 }

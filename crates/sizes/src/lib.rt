@@ -3,4 +3,6 @@
 // branch costs that cannot be foreseen is more than the sizes of all its ways. Items are counted by themselves, not within their owners.
 
 pub mod base;
+pub mod chain;
+pub mod lists;
 mod words;
