@@ -28,7 +28,7 @@ parted put (suc n) (x ∷ xs) =
     omega (arith, parted put n xs, length-append (put x) (putAll put xs), length-append (put x) (putAll put (take n xs)))
 
 -- what records count, in all
-pub counts : {X : Type 0} → (X → ℕ) → List X → ℕ
+unfoldable pub counts : {X : Type 0} → (X → ℕ) → List X → ℕ
 counts count [] = 0
 counts count (x ∷ xs) = count x + counts count xs
 
@@ -50,9 +50,14 @@ module _ {X Y : Type 0} (put : With X Y → List ℕ) (own : X → List ℕ) (it
   apart (x ∷ xs) items h =
       let here : length (take (count x) items) ≡ count x = simp length-take (omega arith) in
       let rest : counts count xs ≡ length (drop (count x) items) = simp length-drop (omega arith) in
-      omega (arith, each x (take (count x) items) here, apart xs (drop (count x) items) rest, parted item (count x) items,
-      length-append (put (record { whole = x; items = take (count x) items })) (putAll put (shared count xs (drop (count x) items))),
-      length-append (own x) (putAll own xs))
+      omega (
+        arith,
+        each x (take (count x) items) here,
+        apart xs (drop (count x) items) rest,
+        parted item (count x) items,
+        length-append (put (record { whole = x; items = take (count x) items })) (putAll put (shared count xs (drop (count x) items))),
+        length-append (own x) (putAll own xs),
+      )
 
   -- of tables
   pub shares-apart : (i w : ℕ) (of : List ℕ → X) (used : ℕ) (t : List ℕ) (iw : ℕ) (itemOf : List ℕ → Y) (items : List ℕ) →

@@ -53,3 +53,7 @@ assign-counts a b m n p q k l is =
     let all : length (putBytes a ++ (shortest m ++ (putBytes b ++ shortest n))) ≡ length (putBytes a) + (length (shortest m) + (length (putBytes b) + length (shortest n))) =
     length-append (putBytes a) _ ∙ ap (λ (z : ℕ). length (putBytes a) + z) (length-append (shortest m) _ ∙ ap (λ (z : ℕ). length (shortest m) + z) (length-append (putBytes b) (shortest n))) in
     record { next = rw all (omega (arith, p .next, q .next)) }
+
+-- by a size
+pub counts-size : {bytes : List ℕ} {n at next : ℕ} → n ≡ length bytes → next ≡ min (at + n) 1048577 → Counts bytes at next
+counts-size is next = record { next = rw (← is) next }

@@ -4,3 +4,4 @@ pub mod Wide
 pub mod Flat
 pub mod Apart
 pub mod Steps
+pub mod Records

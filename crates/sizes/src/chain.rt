@@ -54,11 +54,7 @@ fn step(strip: bool, row: [u64; 11]) -> usize
         property(strip, row),
         method(strip, row),
     );
-    choose(
-        tag == StepTag::INDEX as u64,
-        index_step(strip, row),
-        other,
-    )
+    choose(tag == StepTag::INDEX as u64, index_step(strip, row), other)
 }
 
 fn steps(at: usize, strip: bool, t: &[u64], used: usize) -> usize
@@ -118,14 +114,7 @@ fn wholes(at: usize, strip: bool, t: &[u64], used: usize) -> usize
 }
 
 // The section, in the way asked. That the chains own all the steps, and no more, was tested before.
-pub fn chains(
-    at: usize,
-    strip: bool,
-    t: &[u64],
-    used: usize,
-    items: &[u64],
-    owned: usize,
-) -> usize
+pub fn chains(at: usize, strip: bool, t: &[u64], used: usize, items: &[u64], owned: usize) -> usize
     requires { ⌜ shares.SharesFit 6 9 used (now t) 11 (now items) ⌝ }
     requires { ⌜ owned ≡ shares.owned 6 9 used (now t) ⌝ }
     ensures { λ r. ⌜ Counts (definition.putList definition.putChain (chainsIn strip (shares.chainsOf (now (t .entry)) used (now (items .entry))))) at r ⌝ }

@@ -3,6 +3,8 @@
 // branch costs that cannot be foreseen is more than the sizes of all its ways. Items are counted by themselves, not within their owners.
 
 pub mod base;
+pub mod callable;
 pub mod chain;
 pub mod lists;
+pub mod switch;
 mod words;

@@ -1,0 +1,62 @@
+-- The rows before j are counted (`Flat`).
+use borrow.Author.Needs.{needs}
+use Rattle.rows.specs.Back.{functionOf}
+use Rattle.sizes.specs.Own.{ownFunction}
+use Prim.Native.Nat.{_-_}
+use native.Mathlib.Omega.{arith}
+use Rattle.sizes.proofs.Flat.{Flat, flat-none, flat-more, flat-done}
+use Rattle.sizes.proofs.callable.heads.Statement.{statement}
+use Rattle.sizes.proofs.callable.heads.Tie as tie
+
+abbrev Inv-loop : tie.InvT-loop
+Inv-loop at t used place₀ j₀ place j = Flat ownFunction 7 functionOf t at used j place
+
+abbrev μ-loop : tie.MeasureT-loop
+μ-loop at t used place₀ j₀ place j = used - j
+
+plus-requires : tie.Need-plus-requires Inv-loop μ-loop
+plus-requires c κs = search needs
+
+loop-holds : tie.Need-loop-holds Inv-loop μ-loop
+loop-holds c = flat-none (c .before .before .pre) (c .plus .ensures)
+
+mul-of-seven : tie.Need-mul-of-seven Inv-loop μ-loop
+mul-of-seven c = omega arith
+
+of-seven-requires : tie.Need-of-seven-requires Inv-loop μ-loop
+of-seven-requires c κs = omega arith
+
+function-requires : tie.Need-function-requires Inv-loop μ-loop
+function-requires c κs = search needs
+
+plus-requires-2 : tie.Need-plus-requires-2 Inv-loop μ-loop
+plus-requires-2 c κs = search needs
+
+add-j : tie.Need-add-j Inv-loop μ-loop
+add-j c = omega arith
+
+loop-less : tie.Need-loop-less Inv-loop μ-loop
+loop-less c = omega arith
+
+loop-again : tie.Need-loop-again Inv-loop μ-loop
+loop-again c = flat-more (c .before .before .before .before .loop .inv) (c .before .before .before .loop-test .taken) (c .before .before .of-seven .ensures) (c .before .function .ensures .0) (c .plus2 .ensures)
+
+returns : tie.Need-returns Inv-loop μ-loop
+returns c = flat-done (c .before .loop .inv) (c .loop-test .left)
+
+pub heads-spec : {M : Type 1} → statement M
+heads-spec =
+    tie.close
+    (tie.spec
+    Inv-loop
+    μ-loop
+    plus-requires
+    loop-holds
+    mul-of-seven
+    of-seven-requires
+    function-requires
+    plus-requires-2
+    add-j
+    loop-less
+    loop-again
+    returns)

@@ -1,0 +1,62 @@
+-- The rows before j are counted (`Flat`).
+use borrow.Author.Needs.{needs}
+use Rattle.rows.specs.Back.{switchOf}
+use Rattle.sizes.specs.Own.{ownSwitch}
+use Prim.Native.Nat.{_-_}
+use native.Mathlib.Omega.{arith}
+use Rattle.sizes.proofs.Flat.{Flat, flat-none, flat-more, flat-done}
+use Rattle.sizes.proofs.switch.wholes.Statement.{statement}
+use Rattle.sizes.proofs.switch.wholes.Tie as tie
+
+abbrev Inv-loop : tie.InvT-loop
+Inv-loop at t used place₀ j₀ place j = Flat ownSwitch 3 switchOf t at used j place
+
+abbrev μ-loop : tie.MeasureT-loop
+μ-loop at t used place₀ j₀ place j = used - j
+
+plus-requires : tie.Need-plus-requires Inv-loop μ-loop
+plus-requires c κs = search needs
+
+loop-holds : tie.Need-loop-holds Inv-loop μ-loop
+loop-holds c = flat-none (c .before .before .pre) (c .plus .ensures)
+
+mul-of-three : tie.Need-mul-of-three Inv-loop μ-loop
+mul-of-three c = omega arith
+
+of-three-requires : tie.Need-of-three-requires Inv-loop μ-loop
+of-three-requires c κs = omega arith
+
+switch-requires : tie.Need-switch-requires Inv-loop μ-loop
+switch-requires c κs = search needs
+
+plus-requires-2 : tie.Need-plus-requires-2 Inv-loop μ-loop
+plus-requires-2 c κs = search needs
+
+add-j : tie.Need-add-j Inv-loop μ-loop
+add-j c = omega arith
+
+loop-less : tie.Need-loop-less Inv-loop μ-loop
+loop-less c = omega arith
+
+loop-again : tie.Need-loop-again Inv-loop μ-loop
+loop-again c = flat-more (c .before .before .before .before .loop .inv) (c .before .before .before .loop-test .taken) (c .before .before .of-three .ensures) (c .before .switch .ensures .0) (c .plus2 .ensures)
+
+returns : tie.Need-returns Inv-loop μ-loop
+returns c = flat-done (c .before .loop .inv) (c .loop-test .left)
+
+pub wholes-spec : {M : Type 1} → statement M
+wholes-spec =
+    tie.close
+    (tie.spec
+    Inv-loop
+    μ-loop
+    plus-requires
+    loop-holds
+    mul-of-three
+    of-three-requires
+    switch-requires
+    plus-requires-2
+    add-j
+    loop-less
+    loop-again
+    returns)
