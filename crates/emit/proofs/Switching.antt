@@ -84,7 +84,7 @@ module _ {t : List ℕ} {used : ℕ} {cases ranges all e : List ℕ} {at j from 
   pub switching-done : used ≤ j → Puts all e at out place
   switching-done h = onward-done (rw (between-none 3 switchOf t j used h) at (g .going))
 
-length-cased : (ws : List Switch) (cases : List Case) (ranges : List Range) → length (sharedCases ws cases ranges) ≡ length ws
+pub length-cased : (ws : List Switch) (cases : List Case) (ranges : List Range) → length (sharedCases ws cases ranges) ≡ length ws
 length-cased [] cases ranges = refl
 length-cased (w ∷ ws) cases ranges = ap suc (length-cased ws (drop (w .cases) cases) (drop (w .ranges) ranges))
 

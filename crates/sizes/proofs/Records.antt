@@ -26,6 +26,7 @@ use Rattle.model.specs.Rules.{total}
 use Rattle.model.specs.Tables.{sharedCases}
 use Rattle.emit.specs.Shares.{owned, switchesOf}
 use Rattle.emit.proofs.Listing.{length-records}
+use Rattle.emit.proofs.Switching.{length-cased}
 use Rattle.sizes.specs.Counts.{Counts}
 use Rattle.sizes.specs.Own.{ownSwitch, ownSite, ownFunction}
 use Rattle.sizes.proofs.Laws.{counts-same, counts-then}
@@ -101,10 +102,6 @@ switch-apart : (w : Switch) (cases : List Case) (ranges : List Range) → length
 switch-apart w cases ranges cased ranged = rw (cased, ranged) (simp length-append (omega arith))
 
 -- ── switches ──
-
-length-cased : (ws : List Switch) (cases : List Case) (ranges : List Range) → length (sharedCases ws cases ranges) ≡ length ws
-length-cased [] cases ranges = refl
-length-cased (w ∷ ws) cases ranges = ap suc (length-cased ws (drop (w .cases) cases) (drop (w .ranges) ranges))
 
 apart-cases : (ws : List Switch) (cases : List Case) (ranges : List Range) → counts (λ w. w .cases) ws ≡ length cases → counts (λ w. w .ranges) ws ≡ length ranges →
     length (putAll putSwitch (sharedCases ws cases ranges)) ≡ length (putAll ownSwitch ws) + length (putAll putCase cases) + length (putAll putRange ranges)
