@@ -31,7 +31,7 @@ pub record Next (under fewer : ℕ) (t : List ℕ) (used next : ℕ) : Type 0 wh
   pub items : Enough under (itemsOf (keyedAt t next .constant)) (rowsFrom t used (next + 1))
   pub others : Enough (suc under) fewer (grow under (itemsOf (keyedAt t next .constant)) (rowsFrom t used (next + 1)) .rest)
 
-next-of : {under fewer : ℕ} {t : List ℕ} {used next : ℕ} → ItemsStand (suc under) (suc fewer) t used next → Next under fewer t used next
+pub next-of : {under fewer : ℕ} {t : List ℕ} {used next : ℕ} → ItemsStand (suc under) (suc fewer) t used next → Next under fewer t used next
 next-of {under = l} {fewer = k} {t = t} {used = used} {next = next} g = go (ltb next used) refl
   where
     go : (b : Bool) → ltb next used ≡ b → Next l k t used next

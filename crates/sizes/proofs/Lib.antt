@@ -5,3 +5,5 @@ pub mod Flat
 pub mod Apart
 pub mod Steps
 pub mod Records
+pub mod Tags
+pub mod Grown

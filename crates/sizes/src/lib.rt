@@ -5,6 +5,7 @@
 pub mod base;
 pub mod callable;
 pub mod chain;
+pub mod constant;
 pub mod lists;
 pub mod switch;
 mod words;
