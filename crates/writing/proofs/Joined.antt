@@ -44,10 +44,10 @@ module _ (p : Meaning) where
 -- ── of tables ──
 
 module _ (m : Lent) where
-  abbrev frontOf : List ℕ
+  abbrev pub frontOf : List ℕ
   frontOf = frontBytes (m .outside) (m .ends) (m .constants) (m .tokens) (m .assigns) (m .text)
 
-  abbrev backOf : Bool → List ℕ
+  abbrev pub backOf : Bool → List ℕ
   backOf stripped =
       backBytes stripped (m .outside) (m .chains) (m .steps) (m .switches) (m .cases) (m .ranges) (m .customs) (m .inputs) (m .functions) (m .parameters) (m .text)
 
@@ -61,7 +61,7 @@ module _ (m : Lent) where
   back-means false x = rw (x .steps, x .cases, x .ranges, x .inputs, x .parameters)
   back-means true x = rw (x .steps, x .cases, x .ranges, x .inputs, x .parameters)
 
-  joined : (stripped : Bool) → Exact m → frontOf ++ backOf stripped ≡ bytesOf stripped m
+  pub joined : (stripped : Bool) → Exact m → frontOf ++ backOf stripped ≡ bytesOf stripped m
   unfolding bytesOf
   joined stripped x = alike (front-means stripped) (back-means stripped x) ∙ halves (inWay stripped (meaningOf m))
 
