@@ -1,6 +1,6 @@
 -- How long a number is at most, and the laws of `Counts`.
 use Prim.Native.Nat.{ℕ, zero, suc, _+_, _/_, _%_, _≤_, min}
-use mathlib.Core.Path.{_≡_, refl, _∙_, ap}
+use mathlib.Core.Path.{_≡_, _∙_, ap}
 use mathlib.Core.Bool.{Bool, true, false}
 use mathlib.Core.List.{List, [], _∷_, _++_}
 use native.Mathlib.Omega.{arith}

@@ -17,12 +17,10 @@ use Rattle.format.specs.declared.records.Literal.{Literal}
 use Rattle.format.specs.declared.records.Input.{Input}
 use Rattle.format.specs.declared.records.Site.{Site}
 use Rattle.format.specs.declared.records.Function.{Function}
-use Rattle.format.specs.declared.records.Chunk.{Chunk}
 use Rattle.format.specs.declared.records.Access.{Access}
 use Rattle.format.specs.declared.records.ThisType.{ThisType}
 use Rattle.rows.specs.Back as B
-use Rattle.written.specs.Put.{putList, putName, putChunk, putCase, putRange, putSwitch, putLiteral, putInput, putSite, putAccess, putThis, putFunction}
-use Rattle.model.specs.Rules.{total}
+use Rattle.written.specs.Put.{putList, putName, putCase, putRange, putSwitch, putLiteral, putInput, putSite, putAccess, putThis, putFunction}
 use Rattle.model.specs.Tables.{sharedCases}
 use Rattle.emit.specs.Shares.{owned, switchesOf}
 use Rattle.emit.proofs.Listing.{length-records}

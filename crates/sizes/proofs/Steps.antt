@@ -1,19 +1,18 @@
 -- The sizes of chains and steps, from those of their words: by the tag, as the definition tests it.
-use Prim.Native.Nat.{ℕ, _+_, _≤_}
+use Prim.Native.Nat.{ℕ, _+_}
 use mathlib.Core.Bool.{Bool, true, false}
-use mathlib.Core.Path.{_≡_, refl, _∙_, ap}
-use mathlib.Core.List.{List, _++_}
+use mathlib.Core.Path.{_≡_, _∙_}
+use mathlib.Core.List.{List}
 use native.Mathlib.Omega.{arith}
 use lib.ListN.{length, length-append}
 use Rattle.grammar.specs.Combinators.{if_then_else_, putAll}
 use Rattle.grammar.specs.Number.{shortest}
-use Rattle.tables.specs.Table.{With}
 use Rattle.format.specs.declared.records.Root.{Root}
 use Rattle.format.specs.declared.records.Tail.{Tail}
 use Rattle.format.specs.declared.records.Step.{Step}
 use Rattle.format.specs.declared.records.Chain.{Chain}
 use Rattle.rows.specs.Back.{word, small, index, name, position, indexOf, propertyOf, methodOf}
-use Rattle.written.specs.Put.{putPosition, putRoot, putTail, putList}
+use Rattle.written.specs.Put.{putPosition, putRoot, putTail}
 use Rattle.emit.specs.Ways.{positionIn, rootIn, putStepIn, putChainIn}
 use Rattle.emit.proofs.Stripping.{local-in, named-in, this-in, temporary-in, index-in, property-in, method-in, chain-in}
 use Rattle.sizes.specs.Own.{ownChain}

@@ -1,14 +1,14 @@
 -- Constants by their tag: what a row's words say of its constant, tag by tag.
 use Prim.Native.Nat.{ℕ, zero, suc, _+_, _≤_, _<_, min}
 use mathlib.Core.Bool.{Bool, true, false, _||_}
-use mathlib.Core.Path.{_≡_, refl, sym, _∙_, ap}
-use mathlib.Core.List.{List, [], _∷_, _++_}
+use mathlib.Core.Path.{_≡_, refl, _∙_}
+use mathlib.Core.List.{List, _++_}
 use native.Mathlib.Omega.{arith}
 use borrow.Author.Tests.{ne-eqb, lt-ltb}
-use lib.Dec.{eqb, ltb}
+use lib.Dec.{eqb}
 use lib.ListN.{length, length-append}
 use Rattle.grammar.specs.declared.Span.{Span}
-use Rattle.grammar.specs.Combinators.{if_then_else_, lowBytes}
+use Rattle.grammar.specs.Combinators.{if_then_else_}
 use Rattle.grammar.specs.Number.{shortest, zigzag}
 use Rattle.rows.specs.declared.constants.Constant.{Constant}
 use Rattle.rows.specs.declared.constants.Kind.{Kind}
@@ -18,7 +18,7 @@ use Rattle.written.specs.Put.{putBytes, putKind}
 use Rattle.model.specs.Lent.{clip}
 use Rattle.emit.specs.Constants.{headBytes, footBytes, keysOf, keyBytes}
 use Rattle.sizes.specs.Counts.{Counts}
-use Rattle.sizes.specs.Items.{isPointer, isRange, isList, hasText, when, wordsOf}
+use Rattle.sizes.specs.Items.{isPointer, isRange, isList, hasText, whereUsed, wordsOf}
 
 -- the constant of a row, by a tag: `constantOf` for the row's own
 abbrev compound : ℕ → List ℕ → Constant
@@ -86,11 +86,11 @@ module _ (n : ℕ) (past : 11 < n) where
 module _ (row : List ℕ) where
   -- ── items and keys ──
 
-  items-past : (n : ℕ) → 11 < n → when (isList n) (word row 5) ≡ itemsOf (tagged n row)
+  items-past : (n : ℕ) → 11 < n → whereUsed (isList n) (word row 5) ≡ itemsOf (tagged n row)
   items-past n past = rw (is-pointer n past row, pointer-tag n past)
 
-  pub items-by : (n : ℕ) → when (isList n) (word row 5) ≡ itemsOf (tagged n row)
-  items-by = by-tag (λ n. when (isList n) (word row 5) ≡ itemsOf (tagged n row)) refl refl refl refl refl refl refl refl refl refl refl refl items-past
+  pub items-by : (n : ℕ) → whereUsed (isList n) (word row 5) ≡ itemsOf (tagged n row)
+  items-by = by-tag (λ n. whereUsed (isList n) (word row 5) ≡ itemsOf (tagged n row)) refl refl refl refl refl refl refl refl refl refl refl refl items-past
 
   keys-past : (n : ℕ) → 11 < n → eqb n 0x08 ≡ keysOf (tagged n row)
   keys-past n past = rw (is-pointer n past row, isnt n past 8 (omega arith))
@@ -105,7 +105,7 @@ module _ (row : List ℕ) where
     textOfRow = length (putBytes (clip text (textOf row)))
 
     abbrev Sized : ℕ → Type 0
-    Sized n = wordsOf n row + when (hasText n) textOfRow ≡ length (headBytes text (tagged n row) ++ footBytes (tagged n row))
+    Sized n = wordsOf n row + whereUsed (hasText n) textOfRow ≡ length (headBytes text (tagged n row) ++ footBytes (tagged n row))
 
     pointer-sized : (n : ℕ) → 11 < n → Sized n
     pointer-sized n past =
@@ -127,7 +127,7 @@ module _ (row : List ℕ) where
 
 -- ── what the code asks ──
 
-pub items-told : (told : Bool) (row : List ℕ) → isList (word row 0) ≡ told → when told (word row 5) ≡ itemsOf (constantOf row)
+pub items-told : (told : Bool) (row : List ℕ) → isList (word row 0) ≡ told → whereUsed told (word row 5) ≡ itemsOf (constantOf row)
 items-told told row e = rw e at (items-by row (word row 0))
 
 pub kind-size : (normal : Bool) (n : ℕ) {size all : ℕ} → size ≡ length (shortest n) → all ≡ (if normal then 1 else 1 + size) →
@@ -140,31 +140,31 @@ module _ (row : List ℕ) where
   tag = word row 0
 
   pub words-size : {range int list pointer : Bool} {from to code n kinds first last char float items behind : ℕ} →
-      range ≡ isRange tag → int ≡ (eqb tag 0x03 || range) → from ≡ length (shortest (zigzag (signed (word row 1)))) → first ≡ when int from →
-      to ≡ length (shortest (zigzag (signed (word row 2)))) → last ≡ when range to →
-      code ≡ length (shortest (index (word row 1))) → char ≡ when (eqb tag 0x05) code → float ≡ when (eqb tag 0x04) 8 →
-      list ≡ isList tag → n ≡ length (shortest (word row 5)) → items ≡ when list n →
-      pointer ≡ isPointer tag → kinds ≡ length (putKind (kind (kindOf (word row 1) (word row 2)))) → behind ≡ when pointer kinds →
+      range ≡ isRange tag → int ≡ (eqb tag 0x03 || range) → from ≡ length (shortest (zigzag (signed (word row 1)))) → first ≡ whereUsed int from →
+      to ≡ length (shortest (zigzag (signed (word row 2)))) → last ≡ whereUsed range to →
+      code ≡ length (shortest (index (word row 1))) → char ≡ whereUsed (eqb tag 0x05) code → float ≡ whereUsed (eqb tag 0x04) 8 →
+      list ≡ isList tag → n ≡ length (shortest (word row 5)) → items ≡ whereUsed list n →
+      pointer ≡ isPointer tag → kinds ≡ length (putKind (kind (kindOf (word row 1) (word row 2)))) → behind ≡ whereUsed pointer kinds →
       1 + first + last + char + float + items + behind ≡ wordsOf tag row
   words-size range int from first to last code char float list n items pointer kinds behind =
       rw (first, last, char, float, items, behind, int, range, from, to, code, list, n, pointer, kinds)
 
 -- a text is capped where it is counted from the front
-capped : (told : Bool) (w long at : ℕ) {n size : ℕ} → n ≡ min (0 + long) 1048577 → size ≡ when told n →
-    min (at + (w + size)) 1048577 ≡ min (at + (w + when told long)) 1048577
+capped : (told : Bool) (w long at : ℕ) {n size : ℕ} → n ≡ min (0 + long) 1048577 → size ≡ whereUsed told n →
+    min (at + (w + size)) 1048577 ≡ min (at + (w + whereUsed told long)) 1048577
 capped true w long at is size = omega arith
 capped false w long at is size = omega arith
 
 pub constant-counts : (row text : List ℕ) {told : Bool} {words n size at next : ℕ} → words ≡ wordsOf (word row 0) row → told ≡ hasText (word row 0) →
-    Counts (putBytes (clip text (textOf row))) 0 n → size ≡ when told n → next ≡ min (at + (words + size)) 1048577 →
+    Counts (putBytes (clip text (textOf row))) 0 n → size ≡ whereUsed told n → next ≡ min (at + (words + size)) 1048577 →
     Counts (headBytes text (constantOf row) ++ footBytes (constantOf row)) at next
 constant-counts row text {told} {words} {n} {size} {at} {next} w is p s e =
-    let all : wordsOf (word row 0) row + when told (length (putBytes (clip text (textOf row)))) ≡ length (headBytes text (constantOf row) ++ footBytes (constantOf row)) =
+    let all : wordsOf (word row 0) row + whereUsed told (length (putBytes (clip text (textOf row)))) ≡ length (headBytes text (constantOf row) ++ footBytes (constantOf row)) =
     rw is (sized-by row text (word row 0)) in
-    let near : min (at + (words + size)) 1048577 ≡ min (at + (words + when told (length (putBytes (clip text (textOf row)))))) 1048577 = capped told words (length (putBytes (clip text (textOf row)))) at (p .next) s in
+    let near : min (at + (words + size)) 1048577 ≡ min (at + (words + whereUsed told (length (putBytes (clip text (textOf row)))))) 1048577 = capped told words (length (putBytes (clip text (textOf row)))) at (p .next) s in
     record { next = e ∙ (near ∙ rw (w, all)) }
 
-pub key-counts : (keys : Bool) (text : List ℕ) (key : Span) {n size at next : ℕ} → Counts (putBytes (clip text key)) 0 n → size ≡ when keys n →
+pub key-counts : (keys : Bool) (text : List ℕ) (key : Span) {n size at next : ℕ} → Counts (putBytes (clip text key)) 0 n → size ≡ whereUsed keys n →
     next ≡ min (at + size) 1048577 → Counts (keyBytes text keys key) at next
 key-counts true text key p s e = record { next = omega (arith, p .next) }
 key-counts false text key p s e = record { next = omega arith }

@@ -27,18 +27,18 @@ isList tag = isPointer tag || (eqb tag 0x07 || eqb tag 0x08)
 abbrev pub hasText : ℕ → Bool
 hasText tag = isPointer tag || (eqb tag 0x06 || eqb tag 0x09)
 
-abbrev pub when : Bool → ℕ → ℕ
-when used n = if used then n else 0
+abbrev pub whereUsed : Bool → ℕ → ℕ
+whereUsed tells n = if tells then n else 0
 
 -- a row's tag and numbers, by the tag: all of it but the text and the items
 abbrev pub wordsOf : ℕ → List ℕ → ℕ
 wordsOf tag row =
-    1 + when (eqb tag 0x03 || isRange tag) (length (shortest (zigzag (signed (word row 1)))))
-    + when (isRange tag) (length (shortest (zigzag (signed (word row 2)))))
-    + when (eqb tag 0x05) (length (shortest (index (word row 1))))
-    + when (eqb tag 0x04) 8
-    + when (isList tag) (length (shortest (word row 5)))
-    + when (isPointer tag) (length (putKind (kind (kindOf (word row 1) (word row 2)))))
+    1 + whereUsed (eqb tag 0x03 || isRange tag) (length (shortest (zigzag (signed (word row 1)))))
+    + whereUsed (isRange tag) (length (shortest (zigzag (signed (word row 2)))))
+    + whereUsed (eqb tag 0x05) (length (shortest (index (word row 1))))
+    + whereUsed (eqb tag 0x04) 8
+    + whereUsed (isList tag) (length (shortest (word row 5)))
+    + whereUsed (isPointer tag) (length (putKind (kind (kindOf (word row 1) (word row 2)))))
 
 -- n constants are counted, and the next row is the one behind all that they own
 pub record CountsItems (text : List ℕ) (keys : Bool) (levels n : ℕ) (t : List ℕ) (used from at : ℕ) (r : Reached) : Type 0 where

@@ -35,6 +35,7 @@ pub fn plus(at: usize, n: usize) -> usize
     place + least(n, PAST - place)
 }
 
+// The sizes of numbers and of rows have a bound beside them, so that no sum of them wraps.
 pub fn number(v: u64) -> usize
     ensures { λ r. ⌜ r ≡ length (shortest v) ⌝ }
     ensures { λ r. ⌜ r ≤ 10 ⌝ }

@@ -45,7 +45,7 @@ fn input(row: [u64; 5]) -> usize
     index(row[0]) + index(row[1]) + small(row[2]) + number(literal(row[3], row[4]))
 }
 
-fn inputs(at: usize, t: &[u64], used: usize) -> usize
+fn input_rows(at: usize, t: &[u64], used: usize) -> usize
     requires { ⌜ used * 5 ≤ length (now t) ⌝ }
     ensures { λ r. ⌜ Counts (putAll definition.putInput (rows.recordsOf 5 rows.inputOf used (now (t .entry)))) at r ⌝ }
 {
@@ -67,7 +67,7 @@ fn site(row: [u64; 3]) -> usize
 }
 
 // Without their inputs.
-fn places(at: usize, t: &[u64], used: usize) -> usize
+fn site_rows(at: usize, t: &[u64], used: usize) -> usize
     requires { ⌜ used * 3 ≤ length (now t) ⌝ }
     ensures { λ r. ⌜ Counts (putAll ownSite (rows.recordsOf 3 rows.siteOf used (now (t .entry)))) at r ⌝ }
 {
@@ -81,13 +81,13 @@ fn places(at: usize, t: &[u64], used: usize) -> usize
 }
 
 // The section. That the sites own all the inputs, and no more, was tested before.
-pub fn sites(at: usize, t: &[u64], used: usize, items: &[u64], owned: usize) -> usize
-    requires { ⌜ shares.SharesFit 2 3 used (now t) 5 (now items) ⌝ }
+pub fn sites(at: usize, t: &[u64], used: usize, inputs: &[u64], owned: usize) -> usize
+    requires { ⌜ shares.SharesFit 2 3 used (now t) 5 (now inputs) ⌝ }
     requires { ⌜ owned ≡ shares.owned 2 3 used (now t) ⌝ }
-    ensures { λ r. ⌜ Counts (definition.putList definition.putSite (shares.sitesOf (now (t .entry)) used (now (items .entry)))) at r ⌝ }
+    ensures { λ r. ⌜ Counts (definition.putList definition.putSite (shares.sitesOf (now (t .entry)) used (now (inputs .entry)))) at r ⌝ }
 {
-    let behind = places(plus(at, number(used as u64)), t, used);
-    inputs(behind, items, owned)
+    let behind = site_rows(plus(at, number(used as u64)), t, used);
+    input_rows(behind, inputs, owned)
 }
 
 // One higher than the index.
@@ -111,7 +111,7 @@ fn function(row: [u64; 7]) -> usize
 }
 
 // Without their parameters.
-fn heads(at: usize, t: &[u64], used: usize) -> usize
+fn function_rows(at: usize, t: &[u64], used: usize) -> usize
     requires { ⌜ used * 7 ≤ length (now t) ⌝ }
     ensures { λ r. ⌜ Counts (putAll ownFunction (rows.recordsOf 7 rows.functionOf used (now (t .entry)))) at r ⌝ }
 {
@@ -125,11 +125,11 @@ fn heads(at: usize, t: &[u64], used: usize) -> usize
 }
 
 // The section. That the functions own all the parameters, and no more, was tested before.
-pub fn functions(at: usize, t: &[u64], used: usize, items: &[u64], owned: usize) -> usize
-    requires { ⌜ shares.SharesFit 3 7 used (now t) 1 (now items) ⌝ }
+pub fn functions(at: usize, t: &[u64], used: usize, parameters: &[u64], owned: usize) -> usize
+    requires { ⌜ shares.SharesFit 3 7 used (now t) 1 (now parameters) ⌝ }
     requires { ⌜ owned ≡ shares.owned 3 7 used (now t) ⌝ }
-    ensures { λ r. ⌜ Counts (definition.putList definition.putFunction (shares.functionsOf (now (t .entry)) used (now (items .entry)))) at r ⌝ }
+    ensures { λ r. ⌜ Counts (definition.putList definition.putFunction (shares.functionsOf (now (t .entry)) used (now (parameters .entry)))) at r ⌝ }
 {
-    let behind = heads(plus(at, number(used as u64)), t, used);
-    indices(behind, items, owned)
+    let behind = function_rows(plus(at, number(used as u64)), t, used);
+    indices(behind, parameters, owned)
 }

@@ -57,7 +57,7 @@ fn step(strip: bool, row: [u64; 11]) -> usize
     choose(tag == StepTag::INDEX as u64, index_step(strip, row), other)
 }
 
-fn steps(at: usize, strip: bool, t: &[u64], used: usize) -> usize
+fn step_rows(at: usize, strip: bool, t: &[u64], used: usize) -> usize
     requires { ⌜ used * 11 ≤ length (now t) ⌝ }
     ensures { λ r. ⌜ Counts (putAll (putStepIn strip) (recordsOf 11 stepOf used (now (t .entry)))) at r ⌝ }
 {
@@ -78,8 +78,8 @@ fn root(strip: bool, row: [u64; 9]) -> usize
     let placed = 1 + position(strip, row[3], row[4]);
     let named = placed + index(row[2]);
     let local = 1 + small(row[1]) + index(row[2]);
-    let nameless = choose(tag == RootTag::NAMED as u64, named, placed);
-    let other = choose(tag == RootTag::TEMPORARY as u64, 1, nameless);
+    let by_name = choose(tag == RootTag::NAMED as u64, named, placed);
+    let other = choose(tag == RootTag::TEMPORARY as u64, 1, by_name);
     choose(tag == RootTag::LOCAL as u64, local, other)
 }
 
@@ -100,7 +100,7 @@ fn chain(strip: bool, row: [u64; 9]) -> usize
 }
 
 // Without their steps.
-fn wholes(at: usize, strip: bool, t: &[u64], used: usize) -> usize
+fn chain_rows(at: usize, strip: bool, t: &[u64], used: usize) -> usize
     requires { ⌜ used * 9 ≤ length (now t) ⌝ }
     ensures { λ r. ⌜ Counts (putAll (ownChain strip) (recordsOf 9 chainOf used (now (t .entry)))) at r ⌝ }
 {
@@ -114,11 +114,11 @@ fn wholes(at: usize, strip: bool, t: &[u64], used: usize) -> usize
 }
 
 // The section, in the way asked. That the chains own all the steps, and no more, was tested before.
-pub fn chains(at: usize, strip: bool, t: &[u64], used: usize, items: &[u64], owned: usize) -> usize
-    requires { ⌜ shares.SharesFit 6 9 used (now t) 11 (now items) ⌝ }
+pub fn chains(at: usize, strip: bool, t: &[u64], used: usize, steps: &[u64], owned: usize) -> usize
+    requires { ⌜ shares.SharesFit 6 9 used (now t) 11 (now steps) ⌝ }
     requires { ⌜ owned ≡ shares.owned 6 9 used (now t) ⌝ }
-    ensures { λ r. ⌜ Counts (definition.putList definition.putChain (chainsIn strip (shares.chainsOf (now (t .entry)) used (now (items .entry))))) at r ⌝ }
+    ensures { λ r. ⌜ Counts (definition.putList definition.putChain (chainsIn strip (shares.chainsOf (now (t .entry)) used (now (steps .entry))))) at r ⌝ }
 {
-    let behind = wholes(plus(at, number(used as u64)), strip, t, used);
-    steps(behind, strip, items, owned)
+    let behind = chain_rows(plus(at, number(used as u64)), strip, t, used);
+    step_rows(behind, strip, steps, owned)
 }

@@ -10,7 +10,7 @@ ghost use Rattle.rows.specs.Tree as tree;
 ghost use Rattle.written.specs.Put as definition;
 ghost use Rattle.emit.specs.Constants.{headBytes, footBytes, keyBytes, ItemsStand, ConstantsFit, constantsOf};
 ghost use Rattle.sizes.specs.Counts.{Counts};
-ghost use Rattle.sizes.specs.Items as definition_of;
+ghost use Rattle.sizes.specs.Items.{isPointer, isRange, isList, hasText, whereUsed, wordsOf, CountsItems};
 use crate::base::choose;
 use crate::base::number;
 use crate::base::plus;
@@ -36,7 +36,7 @@ fn either(a: bool, b: bool) -> bool
 }
 
 fn when(yes: bool, n: usize) -> usize
-    ensures { λ r. ⌜ r ≡ definition_of.when yes n ⌝ }
+    ensures { λ r. ⌜ r ≡ whereUsed yes n ⌝ }
     ensures { λ r. ⌜ r ≤ n ⌝ }
 {
     choose(yes, n, 0)
@@ -44,13 +44,13 @@ fn when(yes: bool, n: usize) -> usize
 
 // A function pointer, which every tag behind the others means.
 fn pointer(tag: u64) -> bool
-    ensures { λ r. ⌜ r ≡ definition_of.isPointer tag ⌝ }
+    ensures { λ r. ⌜ r ≡ isPointer tag ⌝ }
 {
     (ConstantTag::RANGE_INCLUSIVE as u64) < tag
 }
 
 fn ranged(tag: u64) -> bool
-    ensures { λ r. ⌜ r ≡ definition_of.isRange tag ⌝ }
+    ensures { λ r. ⌜ r ≡ isRange tag ⌝ }
 {
     either(
         tag == ConstantTag::RANGE as u64,
@@ -60,7 +60,7 @@ fn ranged(tag: u64) -> bool
 
 // An array, a map and a function pointer.
 fn listed(tag: u64) -> bool
-    ensures { λ r. ⌜ r ≡ definition_of.isList tag ⌝ }
+    ensures { λ r. ⌜ r ≡ isList tag ⌝ }
 {
     either(
         pointer(tag),
@@ -73,7 +73,7 @@ fn listed(tag: u64) -> bool
 
 // A string, a blob and a function pointer.
 fn texted(tag: u64) -> bool
-    ensures { λ r. ⌜ r ≡ definition_of.hasText tag ⌝ }
+    ensures { λ r. ⌜ r ≡ hasText tag ⌝ }
 {
     either(
         pointer(tag),
@@ -94,7 +94,7 @@ fn kind(tag: u64, parameters: u64) -> usize
 
 // The tag and the numbers.
 fn words(row: [u64; 8]) -> usize
-    ensures { λ r. ⌜ r ≡ definition_of.wordsOf (word row 0) row ⌝ }
+    ensures { λ r. ⌜ r ≡ wordsOf (word row 0) row ⌝ }
     ensures { λ r. ⌜ r ≤ 100 ⌝ }
 {
     let tag = row[0];
@@ -151,7 +151,7 @@ fn items(
     s: &[u8],
 ) -> Reached
     requires { ⌜ ItemsStand deep n (now t) used from ⌝ }
-    ensures { λ r. ⌜ definition_of.CountsItems (now (s .entry)) keys deep n (now (t .entry)) used from at r ⌝ }
+    ensures { λ r. ⌜ CountsItems (now (s .entry)) keys deep n (now (t .entry)) used from at r ⌝ }
 {
     let mut place = plus(at, 0);
     let mut next = from;

@@ -21,7 +21,7 @@ fn case(row: [u64; 2]) -> usize
     index(row[0]) + index(row[1])
 }
 
-fn cases(at: usize, t: &[u64], used: usize) -> usize
+fn case_rows(at: usize, t: &[u64], used: usize) -> usize
     requires { ⌜ used * 2 ≤ length (now t) ⌝ }
     ensures { λ r. ⌜ Counts (putAll definition.putCase (recordsOf 2 caseOf used (now (t .entry)))) at r ⌝ }
 {
@@ -41,7 +41,7 @@ fn range(row: [u64; 4]) -> usize
     signed(row[0]) + signed(row[1]) + 1 + index(row[3])
 }
 
-fn ranges(at: usize, t: &[u64], used: usize) -> usize
+fn range_rows(at: usize, t: &[u64], used: usize) -> usize
     requires { ⌜ used * 4 ≤ length (now t) ⌝ }
     ensures { λ r. ⌜ Counts (putAll definition.putRange (recordsOf 4 rangeOf used (now (t .entry)))) at r ⌝ }
 {
@@ -62,7 +62,7 @@ fn switch(row: [u64; 3]) -> usize
 }
 
 // Without their cases and ranges.
-fn wholes(at: usize, t: &[u64], used: usize) -> usize
+fn switch_rows(at: usize, t: &[u64], used: usize) -> usize
     requires { ⌜ used * 3 ≤ length (now t) ⌝ }
     ensures { λ r. ⌜ Counts (putAll ownSwitch (recordsOf 3 switchOf used (now (t .entry)))) at r ⌝ }
 {
@@ -80,18 +80,18 @@ pub fn switches(
     at: usize,
     t: &[u64],
     used: usize,
-    cased: &[u64],
-    owned: usize,
-    ranged: &[u64],
-    others: usize,
+    cases: &[u64],
+    cased: usize,
+    ranges: &[u64],
+    ranged: usize,
 ) -> usize
-    requires { ⌜ shares.SharesFit 0 3 used (now t) 2 (now cased) ⌝ }
-    requires { ⌜ shares.SharesFit 1 3 used (now t) 4 (now ranged) ⌝ }
-    requires { ⌜ owned ≡ shares.owned 0 3 used (now t) ⌝ }
-    requires { ⌜ others ≡ shares.owned 1 3 used (now t) ⌝ }
-    ensures { λ r. ⌜ Counts (definition.putList definition.putSwitch (shares.switchesOf (now (t .entry)) used (now (cased .entry)) (now (ranged .entry)))) at r ⌝ }
+    requires { ⌜ shares.SharesFit 0 3 used (now t) 2 (now cases) ⌝ }
+    requires { ⌜ shares.SharesFit 1 3 used (now t) 4 (now ranges) ⌝ }
+    requires { ⌜ cased ≡ shares.owned 0 3 used (now t) ⌝ }
+    requires { ⌜ ranged ≡ shares.owned 1 3 used (now t) ⌝ }
+    ensures { λ r. ⌜ Counts (definition.putList definition.putSwitch (shares.switchesOf (now (t .entry)) used (now (cases .entry)) (now (ranges .entry)))) at r ⌝ }
 {
-    let behind = wholes(plus(at, number(used as u64)), t, used);
-    let listed = cases(behind, cased, owned);
-    ranges(listed, ranged, others)
+    let behind = switch_rows(plus(at, number(used as u64)), t, used);
+    let listed = case_rows(behind, cases, cased);
+    range_rows(listed, ranges, ranged)
 }

@@ -1,5 +1,4 @@
 -- Three numbers.
-use mathlib.Core.Path.{_∙_}
 use Rattle.grammar.specs.Number.{shortest}
 use Rattle.sizes.proofs.Laws.{counts-size}
 use Rattle.sizes.proofs.Records.{three-sizes}

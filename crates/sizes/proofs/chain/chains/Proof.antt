@@ -19,15 +19,15 @@ number-requires c κs = search needs
 plus-requires : tie.Need-plus-requires
 plus-requires c κs = search needs
 
-wholes-requires : tie.Need-wholes-requires
-wholes-requires c κs = search needs
+chain-rows-requires : tie.Need-chain-rows-requires
+chain-rows-requires c κs = search needs
 
-steps-requires : tie.Need-steps-requires
-steps-requires c κs = search needs
+step-rows-requires : tie.Need-step-rows-requires
+step-rows-requires c κs = search needs
 
 returns : tie.Need-returns
-returns c = let a = c .before .before .before .before .before .before .args in counts-same (ap length (chains-in (a .strip) (chainsOf (a .t .now) (a .used) (a .items .now)))) (shares-count (putChainIn (a .strip)) (ownChain (a .strip)) (putStepIn (a .strip)) (λ x. x .steps) (chain-apart (a .strip)) 6 9 chainOf (a .used) (a .t .now) 11 stepOf (a .items .now) (λ row. refl) (c .before .before .before .number .ensures .0) (c .before .before .plus .ensures) (c .before .wholes .ensures) (c .before .before .before .before .before .before .pre .1) (c .steps .ensures))
+returns c = let a = c .before .before .before .before .before .before .args in counts-same (ap length (chains-in (a .strip) (chainsOf (a .t .now) (a .used) (a .steps .now)))) (shares-count (putChainIn (a .strip)) (ownChain (a .strip)) (putStepIn (a .strip)) (λ x. x .steps) (chain-apart (a .strip)) 6 9 chainOf (a .used) (a .t .now) 11 stepOf (a .steps .now) (λ row. refl) (c .before .before .before .number .ensures .0) (c .before .before .plus .ensures) (c .before .chain-rows .ensures) (c .before .before .before .before .before .before .pre .1) (c .step-rows .ensures))
 
 pub chains-spec : {M : Type 1} → statement M
 chains-spec =
-    tie.close (tie.spec number-requires plus-requires wholes-requires steps-requires returns)
+    tie.close (tie.spec number-requires plus-requires chain-rows-requires step-rows-requires returns)

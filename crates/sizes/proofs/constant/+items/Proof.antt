@@ -101,7 +101,7 @@ items-loop-less : (t : ℕ) → items-lts.Need-loop-less (items-calls t) (items-
 items-loop-less t c = omega arith
 
 items-loop-again : (t : ℕ) → items-lts.Need-loop-again (items-calls t) (items-at t) items.Post items-Inv-loop items-μ-loop
-items-loop-again t c = let keyed = keyedOf (c .before .before .before .before .of-eight .result) in ⊎-elim (λ w. rw (w .1, w .2) (grown-leaf (c .before .before .before .before .before .before .before .before .before .before .args .deep) (c .before .before .before .before .before .before .loop .left) keyed (c .before .before .before .before .before .before .loop .inv) (c .before .before .before .before .before .loop-test .taken) (ap keyedOf (c .before .before .before .before .of-eight .ensures)) (c .before .items-of .ensures) (w .0 .taken) (c .before .before .before .key .ensures) (c .before .before .constant .ensures))) (λ w. rw (w .2, w .3) (grown-more (c .before .before .before .before .before .before .before .before .before .before .args .deep) (c .before .before .before .before .before .before .loop .left) keyed (c .before .before .before .before .before .before .loop .inv) (c .before .before .before .before .before .loop-test .taken) (ap keyedOf (c .before .before .before .before .of-eight .ensures)) (c .before .items-of .ensures) (keys-by (c .before .before .before .before .of-eight .result) (word (c .before .before .before .before .of-eight .result) 0)) (c .before .before .before .key .ensures) (c .before .before .constant .ensures) (w .1 .ensures))) (c .if1 .came)
+items-loop-again t c = ⊎-elim (λ w. rw (w .1, w .2) (grown-leaf (c .before .before .before .before .before .before .before .before .before .before .args .deep) (c .before .before .before .before .before .before .loop .left) (keyedOf (c .before .before .before .before .of-eight .result)) (c .before .before .before .before .before .before .loop .inv) (c .before .before .before .before .before .loop-test .taken) (ap keyedOf (c .before .before .before .before .of-eight .ensures)) (c .before .items-of .ensures) (w .0 .taken) (c .before .before .before .key .ensures) (c .before .before .constant .ensures))) (λ w. rw (w .2, w .3) (grown-more (c .before .before .before .before .before .before .before .before .before .before .args .deep) (c .before .before .before .before .before .before .loop .left) (keyedOf (c .before .before .before .before .of-eight .result)) (c .before .before .before .before .before .before .loop .inv) (c .before .before .before .before .before .loop-test .taken) (ap keyedOf (c .before .before .before .before .of-eight .ensures)) (c .before .items-of .ensures) (keys-by (c .before .before .before .before .of-eight .result) (word (c .before .before .before .before .of-eight .result) 0)) (c .before .before .before .key .ensures) (c .before .before .constant .ensures) (w .1 .ensures))) (c .if1 .came)
 
 items-returns : (t : ℕ) → items-lts.Need-returns (items-calls t) (items-at t) items.Post items-Inv-loop items-μ-loop
 items-returns t c = grown-done (c .before .before .before .before .before .args .deep) (c .before .loop .left) (c .before .loop .inv) (c .loop-test .left)

@@ -10,19 +10,19 @@ number-requires c κs = search needs
 plus-requires : tie.Need-plus-requires
 plus-requires c κs = search needs
 
-wholes-requires : tie.Need-wholes-requires
-wholes-requires c κs = search needs
+switch-rows-requires : tie.Need-switch-rows-requires
+switch-rows-requires c κs = search needs
 
-cases-requires : tie.Need-cases-requires
-cases-requires c κs = search needs
+case-rows-requires : tie.Need-case-rows-requires
+case-rows-requires c κs = search needs
 
-ranges-requires : tie.Need-ranges-requires
-ranges-requires c κs = search needs
+range-rows-requires : tie.Need-range-rows-requires
+range-rows-requires c κs = search needs
 
 returns : tie.Need-returns
-returns c = let a = c .before .before .before .before .before .before .before .before .args in switches-count (a .t .now) (a .used) (a .cased .now) (a .ranged .now) (c .before .before .before .before .number .ensures .0) (c .before .before .before .plus .ensures) (c .before .before .wholes .ensures) (c .before .before .before .before .before .before .before .before .pre .1 .1 .0) (c .before .cases .ensures) (c .before .before .before .before .before .before .before .before .pre .1 .1 .1) (c .ranges .ensures)
+returns c = let a = c .before .before .before .before .before .before .before .before .args in switches-count (a .t .now) (a .used) (a .cases .now) (a .ranges .now) (c .before .before .before .before .number .ensures .0) (c .before .before .before .plus .ensures) (c .before .before .switch-rows .ensures) (c .before .before .before .before .before .before .before .before .pre .1 .1 .0) (c .before .case-rows .ensures) (c .before .before .before .before .before .before .before .before .pre .1 .1 .1) (c .range-rows .ensures)
 
 pub switches-spec : {M : Type 1} → statement M
 switches-spec =
     tie.close
-    (tie.spec number-requires plus-requires wholes-requires cases-requires ranges-requires returns)
+    (tie.spec number-requires plus-requires switch-rows-requires case-rows-requires range-rows-requires returns)

@@ -1,15 +1,15 @@
 -- The rows before j are counted (`Flat`).
 use borrow.Author.Needs.{needs}
-use Rattle.rows.specs.Back.{siteOf}
-use Rattle.sizes.specs.Own.{ownSite}
+use Rattle.rows.specs.Back.{caseOf}
+use Rattle.written.specs.Put.{putCase}
 use Prim.Native.Nat.{_-_}
 use native.Mathlib.Omega.{arith}
 use Rattle.sizes.proofs.Flat.{Flat, flat-none, flat-more, flat-done}
-use Rattle.sizes.proofs.callable.places.Statement.{statement}
-use Rattle.sizes.proofs.callable.places.Tie as tie
+use Rattle.sizes.proofs.switch.case_rows.Statement.{statement}
+use Rattle.sizes.proofs.switch.case_rows.Tie as tie
 
 abbrev Inv-loop : tie.InvT-loop
-Inv-loop at t used place₀ j₀ place j = Flat ownSite 3 siteOf t at used j place
+Inv-loop at t used place₀ j₀ place j = Flat putCase 2 caseOf t at used j place
 
 abbrev μ-loop : tie.MeasureT-loop
 μ-loop at t used place₀ j₀ place j = used - j
@@ -20,14 +20,14 @@ plus-requires c κs = search needs
 loop-holds : tie.Need-loop-holds Inv-loop μ-loop
 loop-holds c = flat-none (c .before .before .pre) (c .plus .ensures)
 
-mul-of-three : tie.Need-mul-of-three Inv-loop μ-loop
-mul-of-three c = omega arith
+mul-of-two : tie.Need-mul-of-two Inv-loop μ-loop
+mul-of-two c = omega arith
 
-of-three-requires : tie.Need-of-three-requires Inv-loop μ-loop
-of-three-requires c κs = omega arith
+of-two-requires : tie.Need-of-two-requires Inv-loop μ-loop
+of-two-requires c κs = omega arith
 
-site-requires : tie.Need-site-requires Inv-loop μ-loop
-site-requires c κs = search needs
+case-requires : tie.Need-case-requires Inv-loop μ-loop
+case-requires c κs = search needs
 
 plus-requires-2 : tie.Need-plus-requires-2 Inv-loop μ-loop
 plus-requires-2 c κs = search needs
@@ -39,22 +39,22 @@ loop-less : tie.Need-loop-less Inv-loop μ-loop
 loop-less c = omega arith
 
 loop-again : tie.Need-loop-again Inv-loop μ-loop
-loop-again c = flat-more (c .before .before .before .before .loop .inv) (c .before .before .before .loop-test .taken) (c .before .before .of-three .ensures) (c .before .site .ensures .0) (c .plus2 .ensures)
+loop-again c = flat-more (c .before .before .before .before .loop .inv) (c .before .before .before .loop-test .taken) (c .before .before .of-two .ensures) (c .before .case .ensures .0) (c .plus2 .ensures)
 
 returns : tie.Need-returns Inv-loop μ-loop
 returns c = flat-done (c .before .loop .inv) (c .loop-test .left)
 
-pub places-spec : {M : Type 1} → statement M
-places-spec =
+pub case-rows-spec : {M : Type 1} → statement M
+case-rows-spec =
     tie.close
     (tie.spec
     Inv-loop
     μ-loop
     plus-requires
     loop-holds
-    mul-of-three
-    of-three-requires
-    site-requires
+    mul-of-two
+    of-two-requires
+    case-requires
     plus-requires-2
     add-j
     loop-less

@@ -1,18 +1,18 @@
 -- The rows before j are counted (`Flat`).
 use borrow.Author.Needs.{needs}
-use Rattle.rows.specs.Back.{chainOf}
-use Rattle.sizes.specs.Own.{ownChain}
+use Rattle.rows.specs.Back.{siteOf}
+use Rattle.sizes.specs.Own.{ownSite}
 use Prim.Native.Nat.{_-_}
 use native.Mathlib.Omega.{arith}
 use Rattle.sizes.proofs.Flat.{Flat, flat-none, flat-more, flat-done}
-use Rattle.sizes.proofs.chain.wholes.Statement.{statement}
-use Rattle.sizes.proofs.chain.wholes.Tie as tie
+use Rattle.sizes.proofs.callable.site_rows.Statement.{statement}
+use Rattle.sizes.proofs.callable.site_rows.Tie as tie
 
 abbrev Inv-loop : tie.InvT-loop
-Inv-loop at strip t used place₀ j₀ place j = Flat (ownChain strip) 9 chainOf t at used j place
+Inv-loop at t used place₀ j₀ place j = Flat ownSite 3 siteOf t at used j place
 
 abbrev μ-loop : tie.MeasureT-loop
-μ-loop at strip t used place₀ j₀ place j = used - j
+μ-loop at t used place₀ j₀ place j = used - j
 
 plus-requires : tie.Need-plus-requires Inv-loop μ-loop
 plus-requires c κs = search needs
@@ -20,14 +20,14 @@ plus-requires c κs = search needs
 loop-holds : tie.Need-loop-holds Inv-loop μ-loop
 loop-holds c = flat-none (c .before .before .pre) (c .plus .ensures)
 
-mul-of-nine : tie.Need-mul-of-nine Inv-loop μ-loop
-mul-of-nine c = omega arith
+mul-of-three : tie.Need-mul-of-three Inv-loop μ-loop
+mul-of-three c = omega arith
 
-of-nine-requires : tie.Need-of-nine-requires Inv-loop μ-loop
-of-nine-requires c κs = omega arith
+of-three-requires : tie.Need-of-three-requires Inv-loop μ-loop
+of-three-requires c κs = omega arith
 
-chain-requires : tie.Need-chain-requires Inv-loop μ-loop
-chain-requires c κs = search needs
+site-requires : tie.Need-site-requires Inv-loop μ-loop
+site-requires c κs = search needs
 
 plus-requires-2 : tie.Need-plus-requires-2 Inv-loop μ-loop
 plus-requires-2 c κs = search needs
@@ -39,22 +39,22 @@ loop-less : tie.Need-loop-less Inv-loop μ-loop
 loop-less c = omega arith
 
 loop-again : tie.Need-loop-again Inv-loop μ-loop
-loop-again c = flat-more (c .before .before .before .before .loop .inv) (c .before .before .before .loop-test .taken) (c .before .before .of-nine .ensures) (c .before .chain .ensures .0) (c .plus2 .ensures)
+loop-again c = flat-more (c .before .before .before .before .loop .inv) (c .before .before .before .loop-test .taken) (c .before .before .of-three .ensures) (c .before .site .ensures .0) (c .plus2 .ensures)
 
 returns : tie.Need-returns Inv-loop μ-loop
 returns c = flat-done (c .before .loop .inv) (c .loop-test .left)
 
-pub wholes-spec : {M : Type 1} → statement M
-wholes-spec =
+pub site-rows-spec : {M : Type 1} → statement M
+site-rows-spec =
     tie.close
     (tie.spec
     Inv-loop
     μ-loop
     plus-requires
     loop-holds
-    mul-of-nine
-    of-nine-requires
-    chain-requires
+    mul-of-three
+    of-three-requires
+    site-requires
     plus-requires-2
     add-j
     loop-less

@@ -5,8 +5,8 @@ use Rattle.sizes.specs.Own.{ownFunction}
 use Prim.Native.Nat.{_-_}
 use native.Mathlib.Omega.{arith}
 use Rattle.sizes.proofs.Flat.{Flat, flat-none, flat-more, flat-done}
-use Rattle.sizes.proofs.callable.heads.Statement.{statement}
-use Rattle.sizes.proofs.callable.heads.Tie as tie
+use Rattle.sizes.proofs.callable.function_rows.Statement.{statement}
+use Rattle.sizes.proofs.callable.function_rows.Tie as tie
 
 abbrev Inv-loop : tie.InvT-loop
 Inv-loop at t used place₀ j₀ place j = Flat ownFunction 7 functionOf t at used j place
@@ -44,8 +44,8 @@ loop-again c = flat-more (c .before .before .before .before .loop .inv) (c .befo
 returns : tie.Need-returns Inv-loop μ-loop
 returns c = flat-done (c .before .loop .inv) (c .loop-test .left)
 
-pub heads-spec : {M : Type 1} → statement M
-heads-spec =
+pub function-rows-spec : {M : Type 1} → statement M
+function-rows-spec =
     tie.close
     (tie.spec
     Inv-loop

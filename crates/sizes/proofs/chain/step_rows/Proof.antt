@@ -1,18 +1,18 @@
 -- The rows before j are counted (`Flat`).
 use borrow.Author.Needs.{needs}
-use Rattle.rows.specs.Back.{inputOf}
-use Rattle.written.specs.Put.{putInput}
+use Rattle.rows.specs.Back.{stepOf}
+use Rattle.emit.specs.Ways.{putStepIn}
 use Prim.Native.Nat.{_-_}
 use native.Mathlib.Omega.{arith}
 use Rattle.sizes.proofs.Flat.{Flat, flat-none, flat-more, flat-done}
-use Rattle.sizes.proofs.callable.inputs.Statement.{statement}
-use Rattle.sizes.proofs.callable.inputs.Tie as tie
+use Rattle.sizes.proofs.chain.step_rows.Statement.{statement}
+use Rattle.sizes.proofs.chain.step_rows.Tie as tie
 
 abbrev Inv-loop : tie.InvT-loop
-Inv-loop at t used place₀ j₀ place j = Flat putInput 5 inputOf t at used j place
+Inv-loop at strip t used place₀ j₀ place j = Flat (putStepIn strip) 11 stepOf t at used j place
 
 abbrev μ-loop : tie.MeasureT-loop
-μ-loop at t used place₀ j₀ place j = used - j
+μ-loop at strip t used place₀ j₀ place j = used - j
 
 plus-requires : tie.Need-plus-requires Inv-loop μ-loop
 plus-requires c κs = search needs
@@ -20,14 +20,14 @@ plus-requires c κs = search needs
 loop-holds : tie.Need-loop-holds Inv-loop μ-loop
 loop-holds c = flat-none (c .before .before .pre) (c .plus .ensures)
 
-mul-of-five : tie.Need-mul-of-five Inv-loop μ-loop
-mul-of-five c = omega arith
+mul-of-eleven : tie.Need-mul-of-eleven Inv-loop μ-loop
+mul-of-eleven c = omega arith
 
-of-five-requires : tie.Need-of-five-requires Inv-loop μ-loop
-of-five-requires c κs = omega arith
+of-eleven-requires : tie.Need-of-eleven-requires Inv-loop μ-loop
+of-eleven-requires c κs = omega arith
 
-input-requires : tie.Need-input-requires Inv-loop μ-loop
-input-requires c κs = search needs
+step-requires : tie.Need-step-requires Inv-loop μ-loop
+step-requires c κs = search needs
 
 plus-requires-2 : tie.Need-plus-requires-2 Inv-loop μ-loop
 plus-requires-2 c κs = search needs
@@ -39,22 +39,22 @@ loop-less : tie.Need-loop-less Inv-loop μ-loop
 loop-less c = omega arith
 
 loop-again : tie.Need-loop-again Inv-loop μ-loop
-loop-again c = flat-more (c .before .before .before .before .loop .inv) (c .before .before .before .loop-test .taken) (c .before .before .of-five .ensures) (c .before .input .ensures .0) (c .plus2 .ensures)
+loop-again c = flat-more (c .before .before .before .before .loop .inv) (c .before .before .before .loop-test .taken) (c .before .before .of-eleven .ensures) (c .before .step .ensures .0) (c .plus2 .ensures)
 
 returns : tie.Need-returns Inv-loop μ-loop
 returns c = flat-done (c .before .loop .inv) (c .loop-test .left)
 
-pub inputs-spec : {M : Type 1} → statement M
-inputs-spec =
+pub step-rows-spec : {M : Type 1} → statement M
+step-rows-spec =
     tie.close
     (tie.spec
     Inv-loop
     μ-loop
     plus-requires
     loop-holds
-    mul-of-five
-    of-five-requires
-    input-requires
+    mul-of-eleven
+    of-eleven-requires
+    step-requires
     plus-requires-2
     add-j
     loop-less

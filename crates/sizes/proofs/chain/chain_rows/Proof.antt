@@ -1,15 +1,15 @@
 -- The rows before j are counted (`Flat`).
 use borrow.Author.Needs.{needs}
-use Rattle.rows.specs.Back.{stepOf}
-use Rattle.emit.specs.Ways.{putStepIn}
+use Rattle.rows.specs.Back.{chainOf}
+use Rattle.sizes.specs.Own.{ownChain}
 use Prim.Native.Nat.{_-_}
 use native.Mathlib.Omega.{arith}
 use Rattle.sizes.proofs.Flat.{Flat, flat-none, flat-more, flat-done}
-use Rattle.sizes.proofs.chain.steps.Statement.{statement}
-use Rattle.sizes.proofs.chain.steps.Tie as tie
+use Rattle.sizes.proofs.chain.chain_rows.Statement.{statement}
+use Rattle.sizes.proofs.chain.chain_rows.Tie as tie
 
 abbrev Inv-loop : tie.InvT-loop
-Inv-loop at strip t used place₀ j₀ place j = Flat (putStepIn strip) 11 stepOf t at used j place
+Inv-loop at strip t used place₀ j₀ place j = Flat (ownChain strip) 9 chainOf t at used j place
 
 abbrev μ-loop : tie.MeasureT-loop
 μ-loop at strip t used place₀ j₀ place j = used - j
@@ -20,14 +20,14 @@ plus-requires c κs = search needs
 loop-holds : tie.Need-loop-holds Inv-loop μ-loop
 loop-holds c = flat-none (c .before .before .pre) (c .plus .ensures)
 
-mul-of-eleven : tie.Need-mul-of-eleven Inv-loop μ-loop
-mul-of-eleven c = omega arith
+mul-of-nine : tie.Need-mul-of-nine Inv-loop μ-loop
+mul-of-nine c = omega arith
 
-of-eleven-requires : tie.Need-of-eleven-requires Inv-loop μ-loop
-of-eleven-requires c κs = omega arith
+of-nine-requires : tie.Need-of-nine-requires Inv-loop μ-loop
+of-nine-requires c κs = omega arith
 
-step-requires : tie.Need-step-requires Inv-loop μ-loop
-step-requires c κs = search needs
+chain-requires : tie.Need-chain-requires Inv-loop μ-loop
+chain-requires c κs = search needs
 
 plus-requires-2 : tie.Need-plus-requires-2 Inv-loop μ-loop
 plus-requires-2 c κs = search needs
@@ -39,22 +39,22 @@ loop-less : tie.Need-loop-less Inv-loop μ-loop
 loop-less c = omega arith
 
 loop-again : tie.Need-loop-again Inv-loop μ-loop
-loop-again c = flat-more (c .before .before .before .before .loop .inv) (c .before .before .before .loop-test .taken) (c .before .before .of-eleven .ensures) (c .before .step .ensures .0) (c .plus2 .ensures)
+loop-again c = flat-more (c .before .before .before .before .loop .inv) (c .before .before .before .loop-test .taken) (c .before .before .of-nine .ensures) (c .before .chain .ensures .0) (c .plus2 .ensures)
 
 returns : tie.Need-returns Inv-loop μ-loop
 returns c = flat-done (c .before .loop .inv) (c .loop-test .left)
 
-pub steps-spec : {M : Type 1} → statement M
-steps-spec =
+pub chain-rows-spec : {M : Type 1} → statement M
+chain-rows-spec =
     tie.close
     (tie.spec
     Inv-loop
     μ-loop
     plus-requires
     loop-holds
-    mul-of-eleven
-    of-eleven-requires
-    step-requires
+    mul-of-nine
+    of-nine-requires
+    chain-requires
     plus-requires-2
     add-j
     loop-less

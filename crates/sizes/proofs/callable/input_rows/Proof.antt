@@ -1,15 +1,15 @@
 -- The rows before j are counted (`Flat`).
 use borrow.Author.Needs.{needs}
-use Rattle.rows.specs.Back.{switchOf}
-use Rattle.sizes.specs.Own.{ownSwitch}
+use Rattle.rows.specs.Back.{inputOf}
+use Rattle.written.specs.Put.{putInput}
 use Prim.Native.Nat.{_-_}
 use native.Mathlib.Omega.{arith}
 use Rattle.sizes.proofs.Flat.{Flat, flat-none, flat-more, flat-done}
-use Rattle.sizes.proofs.switch.wholes.Statement.{statement}
-use Rattle.sizes.proofs.switch.wholes.Tie as tie
+use Rattle.sizes.proofs.callable.input_rows.Statement.{statement}
+use Rattle.sizes.proofs.callable.input_rows.Tie as tie
 
 abbrev Inv-loop : tie.InvT-loop
-Inv-loop at t used place₀ j₀ place j = Flat ownSwitch 3 switchOf t at used j place
+Inv-loop at t used place₀ j₀ place j = Flat putInput 5 inputOf t at used j place
 
 abbrev μ-loop : tie.MeasureT-loop
 μ-loop at t used place₀ j₀ place j = used - j
@@ -20,14 +20,14 @@ plus-requires c κs = search needs
 loop-holds : tie.Need-loop-holds Inv-loop μ-loop
 loop-holds c = flat-none (c .before .before .pre) (c .plus .ensures)
 
-mul-of-three : tie.Need-mul-of-three Inv-loop μ-loop
-mul-of-three c = omega arith
+mul-of-five : tie.Need-mul-of-five Inv-loop μ-loop
+mul-of-five c = omega arith
 
-of-three-requires : tie.Need-of-three-requires Inv-loop μ-loop
-of-three-requires c κs = omega arith
+of-five-requires : tie.Need-of-five-requires Inv-loop μ-loop
+of-five-requires c κs = omega arith
 
-switch-requires : tie.Need-switch-requires Inv-loop μ-loop
-switch-requires c κs = search needs
+input-requires : tie.Need-input-requires Inv-loop μ-loop
+input-requires c κs = search needs
 
 plus-requires-2 : tie.Need-plus-requires-2 Inv-loop μ-loop
 plus-requires-2 c κs = search needs
@@ -39,22 +39,22 @@ loop-less : tie.Need-loop-less Inv-loop μ-loop
 loop-less c = omega arith
 
 loop-again : tie.Need-loop-again Inv-loop μ-loop
-loop-again c = flat-more (c .before .before .before .before .loop .inv) (c .before .before .before .loop-test .taken) (c .before .before .of-three .ensures) (c .before .switch .ensures .0) (c .plus2 .ensures)
+loop-again c = flat-more (c .before .before .before .before .loop .inv) (c .before .before .before .loop-test .taken) (c .before .before .of-five .ensures) (c .before .input .ensures .0) (c .plus2 .ensures)
 
 returns : tie.Need-returns Inv-loop μ-loop
 returns c = flat-done (c .before .loop .inv) (c .loop-test .left)
 
-pub wholes-spec : {M : Type 1} → statement M
-wholes-spec =
+pub input-rows-spec : {M : Type 1} → statement M
+input-rows-spec =
     tie.close
     (tie.spec
     Inv-loop
     μ-loop
     plus-requires
     loop-holds
-    mul-of-three
-    of-three-requires
-    switch-requires
+    mul-of-five
+    of-five-requires
+    input-requires
     plus-requires-2
     add-j
     loop-less
