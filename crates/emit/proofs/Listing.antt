@@ -51,13 +51,13 @@ module _ {X : Type 0} {put : X → List ℕ} {w : ℕ} {of : List ℕ → X} {t 
       Listing put w of t (putAll put xs) m mid from end m mid
   start from end xs is h few = rw (← is) (record { inside = h; few = few; going = onward-none })
 
-  pub listing-from : (from n : ℕ) → (from + n) * w ≤ length t → {e : List ℕ} {at : ℕ} → Puts (shortest n) e at m mid →
+  pub listing-from : (from n : ℕ) → (from + n) * w ≤ length t →
       Listing put w of t (putAll put (recordsOf w of n (drop (from * w) t))) m mid from (from + n) m mid
-  listing-from from n h p = start from (from + n) _ (between-from w of t from n) h (omega arith)
+  listing-from from n h = start from (from + n) _ (between-from w of t from n) h (omega arith)
 
-  pub listing-all : (n : ℕ) → n * w ≤ length t → {e : List ℕ} {at : ℕ} → Puts (shortest n) e at m mid →
+  pub listing-all : (n : ℕ) → n * w ≤ length t →
       Listing put w of t (putAll put (recordsOf w of n t)) m mid 0 n m mid
-  listing-all n h p = start 0 n _ (between-all w of t n) h (omega arith)
+  listing-all n h = start 0 n _ (between-all w of t n) h (omega arith)
 
 module _ {X : Type 0} {put : X → List ℕ} {w : ℕ} {of : List ℕ → X} {t all e : List ℕ} {at j end : ℕ} {out : List ℕ} {place : ℕ}
     (g : Listing put w of t all e at j end out place) where

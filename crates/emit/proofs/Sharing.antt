@@ -71,9 +71,9 @@ pub record Sharing {X Y : Type 0} (put : With X Y → List ℕ) (i : ℕ) (count
 
 module _ {X Y : Type 0} {put : With X Y → List ℕ} {i : ℕ} {count : X → ℕ} {w : ℕ} {of : List ℕ → X} {iw : ℕ} {itemOf : List ℕ → Y}
     {t : List ℕ} {used : ℕ} {items m : List ℕ} {mid : ℕ} where
-  pub sharing-none : SharesFit i w used t iw items → {e : List ℕ} {at : ℕ} → Puts (shortest used) e at m mid →
+  pub sharing-none : SharesFit i w used t iw items →
       Sharing put i count w of iw itemOf t used items (putAll put (sharesOf i count w of used t iw itemOf items)) m mid 0 0 m mid
-  sharing-none fit p =
+  sharing-none fit =
       record {
         fit = fit;
         few = omega arith;

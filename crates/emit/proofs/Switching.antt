@@ -28,9 +28,9 @@ pub record Switching (t : List ℕ) (used : ℕ) (cases ranges all e : List ℕ)
   pub going : Onward all e at (putAll putSwitch (sharedCases (between 3 switchOf t j used)
       (between 2 caseOf cases from (owned 0 3 used t)) (between 4 rangeOf ranges behind (owned 1 3 used t)))) out place
 
-pub switching-none : {t : List ℕ} {used : ℕ} {cases ranges e m : List ℕ} {at mid : ℕ} → SharesFit 0 3 used t 2 cases → SharesFit 1 3 used t 4 ranges →
-    Puts (shortest used) e at m mid → Switching t used cases ranges (putAll putSwitch (switchesOf t used cases ranges)) m mid 0 0 0 m mid
-switching-none {t} {used} {cases} {ranges} fitCases fitRanges p =
+pub switching-none : {t : List ℕ} {used : ℕ} {cases ranges m : List ℕ} {mid : ℕ} → SharesFit 0 3 used t 2 cases → SharesFit 1 3 used t 4 ranges →
+    Switching t used cases ranges (putAll putSwitch (switchesOf t used cases ranges)) m mid 0 0 0 m mid
+switching-none {t} {used} {cases} {ranges} fitCases fitRanges =
     record {
       fitCases = fitCases;
       fitRanges = fitRanges;

@@ -2,9 +2,9 @@
 // is specs/Tree.antt's.
 ghost use mathlib.Core.Path.{_≡_};
 ghost use Rattle.rows.specs.Back as definition;
-use crate::tokens::span_of;
 use crate::words::index;
 use crate::words::signed;
+use crate::words::span_of;
 use format::tags::ConstantTag;
 use format::tags::PointerTag;
 use grammar::Span;

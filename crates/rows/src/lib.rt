@@ -1,13 +1,6 @@
-// From the words of a row back to its record: what the tables of a read hold. The rows themselves are format's (specs/Rows.antt), and
-// a row that no read stored gives a record too (specs/Back.antt says which).
+// From the words of a row back to its record: what the tables of a read hold (specs/Back.antt, for any words), as definitions; the words
+// of a row, and a constant's record. The rows themselves are format's (specs/Rows.antt).
 
-pub mod chains;
 pub mod constants;
-pub mod customs;
-pub mod functions;
-pub mod names;
 pub mod row;
-pub mod steps;
-pub mod switches;
-pub mod tokens;
 mod words;

@@ -21,7 +21,7 @@ number-requires : tie.Need-number-requires Inv-loop μ-loop
 number-requires c κs = search needs
 
 loop-holds : tie.Need-loop-holds Inv-loop μ-loop
-loop-holds c = sharing-none (c .before .before .before .before .before .before .before .pre) (c .before .before .number .ensures)
+loop-holds c = sharing-none (c .before .before .before .before .before .before .before .pre)
 
 row-of-seven-requires : tie.Need-row-of-seven-requires Inv-loop μ-loop
 row-of-seven-requires c κs = sharing-row (c .before .loop .inv) (c .loop-test .taken)

@@ -23,7 +23,7 @@ number-requires : tie.Need-number-requires Inv-loop μ-loop
 number-requires c κs = search needs
 
 loop-holds : tie.Need-loop-holds Inv-loop μ-loop
-loop-holds c = sharing-none (c .before .before .before .before .before .before .before .pre) (c .before .before .number .ensures)
+loop-holds c = sharing-none (c .before .before .before .before .before .before .before .pre)
 
 row-of-nine-requires : tie.Need-row-of-nine-requires Inv-loop μ-loop
 row-of-nine-requires c κs = sharing-row (c .before .loop .inv) (c .loop-test .taken)

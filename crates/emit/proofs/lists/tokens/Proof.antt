@@ -21,7 +21,7 @@ number-requires : tie.Need-number-requires Inv-loop μ-loop
 number-requires c κs = search needs
 
 loop-holds : tie.Need-loop-holds Inv-loop μ-loop
-loop-holds c = listing-all (c .before .before .before .before .before .before .before .args .used) (c .before .before .before .before .before .before .before .pre) (c .before .before .number .ensures)
+loop-holds c = listing-all (c .before .before .before .before .before .before .before .args .used) (c .before .before .before .before .before .before .before .pre)
 
 row-of-two-requires : tie.Need-row-of-two-requires Inv-loop μ-loop
 row-of-two-requires c κs = listing-row (c .before .loop .inv) (c .loop-test .taken)

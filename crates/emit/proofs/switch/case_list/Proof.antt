@@ -23,7 +23,7 @@ number-requires : tie.Need-number-requires Inv-loop μ-loop
 number-requires c κs = search needs
 
 loop-holds : tie.Need-loop-holds Inv-loop μ-loop
-loop-holds c = listing-from (c .before .before .before .before .before .before .args .from) (c .before .before .before .before .before .before .args .n) (c .before .before .before .before .before .before .pre) (c .before .before .number .ensures)
+loop-holds c = listing-from (c .before .before .before .before .before .before .args .from) (c .before .before .before .before .before .before .args .n) (c .before .before .before .before .before .before .pre)
 
 row-of-two-requires : tie.Need-row-of-two-requires Inv-loop μ-loop
 row-of-two-requires c κs = listing-row (c .before .before .loop .inv) (c .before .loop-test .taken)

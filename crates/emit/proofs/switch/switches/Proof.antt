@@ -21,7 +21,7 @@ number-requires : tie.Need-number-requires Inv-loop μ-loop
 number-requires c κs = search needs
 
 loop-holds : tie.Need-loop-holds Inv-loop μ-loop
-loop-holds c = switching-none (c .before .before .before .before .before .before .before .before .pre .0) (c .before .before .before .before .before .before .before .before .pre .1) (c .before .before .number .ensures)
+loop-holds c = switching-none (c .before .before .before .before .before .before .before .before .pre .0) (c .before .before .before .before .before .before .before .before .pre .1)
 
 row-of-three-requires : tie.Need-row-of-three-requires Inv-loop μ-loop
 row-of-three-requires c κs = switching-row (c .before .loop .inv) (c .loop-test .taken)
