@@ -7,6 +7,7 @@ pub mod chain;
 pub mod constant;
 pub mod header;
 pub mod lists;
+pub mod numbers;
 mod places;
 pub mod records;
 pub mod switch;

@@ -1,9 +1,8 @@
 // Custom sites and functions without their items; and inputs and parameters, by themselves.
 ghost use mathlib.Core.Path.{_≡_};
-ghost use Prim.Native.Nat.{_+_, _-_, _*_, _≤_};
-ghost use lib.Dec.{eqb};
+ghost use Prim.Native.Nat.{_*_, _≤_};
 ghost use lib.ListN.{length};
-ghost use Rattle.grammar.specs.Combinators.{if_then_else_, putAll};
+ghost use Rattle.grammar.specs.Combinators.{putAll};
 ghost use Rattle.rows.specs.Back as rows;
 ghost use Rattle.written.specs.Put as definition;
 ghost use Rattle.emit.specs.Shares as shares;
@@ -14,6 +13,8 @@ use crate::base::plus;
 use crate::lists::indices;
 use crate::words::index;
 use crate::words::small;
+use emit::numbers::told;
+use emit::numbers::typed;
 use format::records::Chunk;
 use rows::row;
 
@@ -26,23 +27,12 @@ pub fn chunk(at: usize, c: Chunk) -> usize
     )
 }
 
-// FFFFFFFF means none.
-fn literal(present: u64, literal: u64) -> u64
-    ensures { λ r. ⌜ r ≡ (if eqb present 0 then 0xFFFFFFFF else rows.index literal) ⌝ }
-{
-    if present == 0 {
-        0xffff_ffff
-    } else {
-        literal % 0x1_0000_0000
-    }
-}
-
 // Chunk and literal.
 fn input(row: [u64; 5]) -> usize
     ensures { λ r. ⌜ r ≡ length (definition.putInput (rows.inputOf row)) ⌝ }
     ensures { λ r. ⌜ r ≤ 100 ⌝ }
 {
-    index(row[0]) + index(row[1]) + small(row[2]) + number(literal(row[3], row[4]))
+    index(row[0]) + index(row[1]) + small(row[2]) + number(told(row[3], row[4]))
 }
 
 fn input_rows(at: usize, t: &[u64], used: usize) -> usize
@@ -90,23 +80,12 @@ pub fn sites(at: usize, t: &[u64], used: usize, inputs: &[u64], owned: usize) ->
     input_rows(behind, inputs, owned)
 }
 
-// One higher than the index.
-fn this(w: u64) -> u64
-    ensures { λ r. ⌜ r ≡ (if eqb w 0 then 0 else rows.index (w - 1) + 1) ⌝ }
-{
-    if w == 0 {
-        0
-    } else {
-        (w - 1) % 0x1_0000_0000 + 1
-    }
-}
-
 // Name, access in one byte, this_type, how many parameters, chunk.
 fn function(row: [u64; 7]) -> usize
     ensures { λ r. ⌜ r ≡ length (ownFunction (rows.functionOf row)) ⌝ }
     ensures { λ r. ⌜ r ≤ 100 ⌝ }
 {
-    let told = index(row[0]) + 1 + number(this(row[2])) + number(row[3]);
+    let told = index(row[0]) + 1 + number(typed(row[2])) + number(row[3]);
     told + index(row[4]) + index(row[5]) + small(row[6])
 }
 

@@ -14,11 +14,11 @@ index-requires c κs = search needs
 add-told : tie.Need-add-told
 add-told c = search needs
 
-array-read-this : tie.Need-array-read-this
-array-read-this c = search needs
+array-read-typed : tie.Need-array-read-typed
+array-read-typed c = search needs
 
-this-requires : tie.Need-this-requires
-this-requires c κs = search needs
+typed-requires : tie.Need-typed-requires
+typed-requires c κs = search needs
 
 number-requires : tie.Need-number-requires
 number-requires c κs = search needs
@@ -63,7 +63,7 @@ add-result-3 : tie.Need-add-result-3
 add-result-3 c = search needs
 
 returns : tie.Need-returns
-returns c = (function-size (c .before .before .before .before .before .before .before .args .t1) (c .before .before .before .before .before .before .index .ensures .0) (c .before .before .before .before .before .this .ensures) (c .before .before .before .before .number .ensures .0) (c .before .before .before .number2 .ensures .0) (c .before .before .index2 .ensures .0) (c .before .index3 .ensures .0) (c .small .ensures .0), omega arith)
+returns c = (function-size (c .before .before .before .before .before .before .before .args .t1) (c .before .before .before .before .before .before .index .ensures .0) (c .before .before .before .before .before .typed .ensures) (c .before .before .before .before .number .ensures .0) (c .before .before .before .number2 .ensures .0) (c .before .before .index2 .ensures .0) (c .before .index3 .ensures .0) (c .small .ensures .0), omega arith)
 
 pub function-spec : {M : Type 1} → statement M
 function-spec =
@@ -72,8 +72,8 @@ function-spec =
     array-read-index
     index-requires
     add-told
-    array-read-this
-    this-requires
+    array-read-typed
+    typed-requires
     number-requires
     add-told-2
     array-read-number

@@ -29,14 +29,14 @@ small-requires c κs = search needs
 add-result-2 : tie.Need-add-result-2
 add-result-2 c = search needs
 
-array-read-literal : tie.Need-array-read-literal
-array-read-literal c = search needs
+array-read-told : tie.Need-array-read-told
+array-read-told c = search needs
 
-array-read-literal-2 : tie.Need-array-read-literal-2
-array-read-literal-2 c = search needs
+array-read-told-2 : tie.Need-array-read-told-2
+array-read-told-2 c = search needs
 
-literal-requires : tie.Need-literal-requires
-literal-requires c κs = search needs
+told-requires : tie.Need-told-requires
+told-requires c κs = search needs
 
 number-requires : tie.Need-number-requires
 number-requires c κs = search needs
@@ -45,7 +45,7 @@ add-result-3 : tie.Need-add-result-3
 add-result-3 c = search needs
 
 returns : tie.Need-returns
-returns c = (input-size (c .before .before .before .before .before .args .t1) (c .before .before .before .before .index .ensures .0) (c .before .before .before .index2 .ensures .0) (c .before .before .small .ensures .0) (c .before .literal .ensures) (c .number .ensures .0), omega arith)
+returns c = (input-size (c .before .before .before .before .before .args .t1) (c .before .before .before .before .index .ensures .0) (c .before .before .before .index2 .ensures .0) (c .before .before .small .ensures .0) (c .before .told .ensures) (c .number .ensures .0), omega arith)
 
 pub input-spec : {M : Type 1} → statement M
 input-spec =
@@ -59,9 +59,9 @@ input-spec =
     array-read-small
     small-requires
     add-result-2
-    array-read-literal
-    array-read-literal-2
-    literal-requires
+    array-read-told
+    array-read-told-2
+    told-requires
     number-requires
     add-result-3
     returns)

@@ -1,7 +1,7 @@
 -- By the flag.
 use borrow.Author.Tests.{eq-eqb, ne-eqb}
-use Rattle.emit.proofs.words.told.Statement.{statement}
-use Rattle.emit.proofs.words.told.Tie as tie
+use Rattle.emit.proofs.numbers.told.Statement.{statement}
+use Rattle.emit.proofs.numbers.told.Tie as tie
 
 returns : tie.Need-returns
 returns c = rw (eq-eqb _ _ (c .if1 .taken))

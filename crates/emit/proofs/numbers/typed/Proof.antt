@@ -1,8 +1,8 @@
 -- 0 or not.
 use borrow.Author.Tests.{eq-eqb, ne-eqb}
 use borrow.Author.Needs.{needs}
-use Rattle.emit.proofs.words.typed.Statement.{statement}
-use Rattle.emit.proofs.words.typed.Tie as tie
+use Rattle.emit.proofs.numbers.typed.Statement.{statement}
+use Rattle.emit.proofs.numbers.typed.Tie as tie
 
 sub-result : tie.Need-sub-result
 sub-result c = search needs

@@ -1,7 +1,7 @@
 -- 0 or not.
 use borrow.Author.Tests.{eq-eqb, ne-eqb}
-use Rattle.emit.proofs.words.bit.Statement.{statement}
-use Rattle.emit.proofs.words.bit.Tie as tie
+use Rattle.emit.proofs.numbers.bit.Statement.{statement}
+use Rattle.emit.proofs.numbers.bit.Tie as tie
 
 returns : tie.Need-returns
 returns c = rw (eq-eqb _ _ (c .if1 .taken))

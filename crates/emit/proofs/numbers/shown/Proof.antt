@@ -1,7 +1,7 @@
 -- By the way asked.
 use borrow.Author.Needs.{needs}
-use Rattle.sizes.proofs.words.shown.Statement.{statement}
-use Rattle.sizes.proofs.words.shown.Tie as tie
+use Rattle.emit.proofs.numbers.shown.Statement.{statement}
+use Rattle.emit.proofs.numbers.shown.Tie as tie
 
 returns : tie.Need-returns
 returns c = search needs

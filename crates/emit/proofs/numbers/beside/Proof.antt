@@ -1,7 +1,7 @@
 -- None where the line is 0.
 use borrow.Author.Tests.{eq-eqb, ne-eqb}
-use Rattle.sizes.proofs.words.beside.Statement.{statement}
-use Rattle.sizes.proofs.words.beside.Tie as tie
+use Rattle.emit.proofs.numbers.beside.Statement.{statement}
+use Rattle.emit.proofs.numbers.beside.Tie as tie
 
 returns : tie.Need-returns
 returns c = rw (eq-eqb _ _ (c .if1 .taken))

@@ -1,7 +1,7 @@
 -- By the half that the word stands in.
 use Rattle.emit.proofs.Fields.{fold-low, fold-high}
-use Rattle.emit.proofs.words.folded.Statement.{statement}
-use Rattle.emit.proofs.words.folded.Tie as tie
+use Rattle.emit.proofs.numbers.folded.Statement.{statement}
+use Rattle.emit.proofs.numbers.folded.Tie as tie
 
 returns : tie.Need-returns
 returns c = fold-low _ (c .if1 .taken)
