@@ -1,5 +1,5 @@
 // Records, and tables of them, as bytes in a lent output: each function puts what written/specs/Put.antt says of its record, from a place
-// on, and answers the place behind (specs/Puts.antt). Into an empty output the same functions only count.
+// on, and answers the place behind (specs/Puts.antt). That there is room was counted before (crate sizes).
 
 pub mod base;
 pub mod callable;

@@ -1,5 +1,4 @@
-// The bytes of what tables mean, section by section in file order, into a lent output from its first byte on. Into an empty output
-// it counts them.
+// The bytes of what tables mean, section by section in file order, into a lent output from its first byte on.
 ghost use mathlib.Core.Bool.{true};
 ghost use Prim.Native.Nat.{_*_, _≤_};
 ghost use lib.ListN.{length};
