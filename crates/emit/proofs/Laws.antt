@@ -33,7 +33,7 @@ puts-wide bytes more {e} {exit} {at} is wide here =
     front fits =
         ap (take (at + length bytes)) (ap (λ (l : List ℕ). l ++ rest) (sym (append-assoc (take at e) bytes more)) ∙ append-assoc (take at e ++ bytes) more rest)
         ∙ take-at (take at e ++ bytes) (more ++ rest) (at + length bytes)
-            (length-append (take at e) bytes ∙ ap (λ (k : ℕ). k + length bytes) (length-take-le at e (omega arith)))
+        (length-append (take at e) bytes ∙ ap (λ (k : ℕ). k + length bytes) (length-take-le at e (omega arith)))
 
 -- the bytes alone are stored
 pub puts-stored : {bytes e exit : List ℕ} {at next : ℕ} → exit ≡ sets e at bytes → next ≡ at + length bytes → Puts bytes e at exit next

@@ -35,8 +35,15 @@ pub part-four : (text : List ℕ) (from : ℕ) → from + 4 ≤ length text →
 part-four text from h =
     let two : from + 2 ≡ suc (suc from) = omega arith in
     let three : from + 3 ≡ suc (suc (suc from)) = omega arith in
-    rw (drop-cons text from 0 (omega arith), drop-cons text (suc from) 0 (omega arith), drop-cons text (suc (suc from)) 0 (omega arith),
-        drop-cons text (suc (suc (suc from))) 0 (omega arith), add-one from, two, three)
+    rw (
+      drop-cons text from 0 (omega arith),
+      drop-cons text (suc from) 0 (omega arith),
+      drop-cons text (suc (suc from)) 0 (omega arith),
+      drop-cons text (suc (suc (suc from))) 0 (omega arith),
+      add-one from,
+      two,
+      three,
+    )
 
 -- a part is a part and what stands behind it
 pub part-behind : (text : List ℕ) (from k m : ℕ) → from + k ≤ length text → part text from (k + m) ≡ part text from k ++ part text (from + k) m

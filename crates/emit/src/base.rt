@@ -78,7 +78,14 @@ fn five(out: &mut [u8], at: usize, v: u64) -> usize
     let second = v / 128;
     let third = second / 128;
     let fourth = third / 128;
-    four(out, at, group(v), group(second), group(third), group(fourth));
+    four(
+        out,
+        at,
+        group(v),
+        group(second),
+        group(third),
+        group(fourth),
+    );
     out[at + 4] = group(fourth / 128);
     at + varint::size(v)
 }
