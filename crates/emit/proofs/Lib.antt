@@ -7,6 +7,7 @@ pub mod Sharing
 pub mod Stripping
 pub mod Fields
 pub mod Switching
+pub mod Tags
 pub mod Nodes
 pub mod Growing
 pub mod Standing

@@ -4,3 +4,4 @@ pub mod Ways
 pub mod Headers
 pub mod Shares
 pub mod Constants
+pub mod Tags

@@ -6,7 +6,7 @@ ghost use lib.Dec.{leb};
 ghost use lib.ListN.{length, take, drop};
 ghost use lib.Seq.{sets};
 ghost use Rattle.grammar.specs.Combinators.{if_then_else_, lowBytes};
-ghost use Rattle.grammar.specs.Number.{shortest, zigzag};
+ghost use Rattle.grammar.specs.Number.{shortest};
 ghost use Rattle.written.specs.Put.{putBytes};
 ghost use Rattle.model.specs.Lent.{clip};
 ghost use Rattle.emit.specs.Puts.{Puts};
@@ -98,12 +98,6 @@ fn exact(out: &mut [u8], at: usize, v: u64) -> usize
         return at;
     }
     varint::put_at(out, at, v)
-}
-
-pub fn signed(out: &mut [u8], at: usize, z: i64) -> usize
-    ensures { λ r. ⌜ Puts (shortest (zigzag z)) (now (out .entry)) at (now (out .exit)) r ⌝ }
-{
-    number(out, at, varint::zigzag(z))
 }
 
 fn low(v: u64) -> u8

@@ -1,26 +1,27 @@
 // Constants: each one's head, its items one level deeper, and behind them a function pointer's kind.
-ghost use mathlib.Core.Path.{_≡_};
-ghost use mathlib.Core.List.{[], _∷_, _++_};
-ghost use Rattle.grammar.specs.Combinators.{if_then_else_, lowBytes};
+ghost use mathlib.Core.List.{_∷_, _++_};
+ghost use Rattle.grammar.specs.Combinators.{lowBytes};
 ghost use Rattle.grammar.specs.Number.{shortest, zigzag};
 ghost use Rattle.format.specs.Artifact.{levels};
+ghost use Rattle.rows.specs.Back.{index, signed, kindOf, compoundOf, constantOf, keyedOf};
 ghost use Rattle.rows.specs.Tree as tree;
 ghost use Rattle.written.specs.Put as definition;
 ghost use Rattle.model.specs.Lent.{clip};
 ghost use Rattle.emit.specs.Puts.{Puts};
-ghost use Rattle.emit.specs.Constants.{headBytes, footBytes, keysOf, keyBytes, ItemsStand, PutsItems, ConstantsFit, constantsOf};
+ghost use Rattle.emit.specs.Constants.{headBytes, footBytes, keyBytes, ItemsStand, PutsItems, ConstantsFit, constantsOf};
 use crate::base::byte;
 use crate::base::low_bytes;
 use crate::base::number;
-use crate::base::signed;
-use crate::base::text;
-use crate::places::keyed_at;
+use crate::owning;
+use crate::owning::has_keys;
+use crate::owning::items_of;
+use crate::words::index;
+use crate::words::signed;
+use crate::words::text;
 use format::tags::ConstantTag;
 use format::tags::Limit;
 use format::tags::PointerTag;
-use grammar::Span;
-use rows::constants::Constant;
-use rows::constants::Kind;
+use rows::row;
 
 // The place behind some constants, and the row behind all that they own.
 pub struct Behind {
@@ -35,36 +36,26 @@ fn tagged(out: &mut [u8], at: usize, tag: u8, v: u64) -> usize
     number(out, behind, v)
 }
 
-fn texted(out: &mut [u8], at: usize, tag: u8, s: &[u8], span: Span) -> usize
-    ensures { λ r. ⌜ Puts (tag ∷ definition.putBytes (clip (now (s .entry)) span)) (now (out .entry)) at (now (out .exit)) r ⌝ }
+fn texted(out: &mut [u8], at: usize, tag: u8, s: &[u8], start: u64, size: u64) -> usize
+    ensures { λ r. ⌜ Puts (tag ∷ definition.putBytes (clip (now (s .entry)) (record { start = start; size = size }))) (now (out .entry)) at (now (out .exit)) r ⌝ }
 {
     let behind = byte(out, at, tag);
-    text(out, behind, s, span)
+    text(out, behind, s, start, size)
 }
 
-fn ranged(out: &mut [u8], at: usize, tag: u8, from: i64, to: i64) -> usize
-    ensures { λ r. ⌜ Puts (tag ∷ (shortest (zigzag from) ++ shortest (zigzag to))) (now (out .entry)) at (now (out .exit)) r ⌝ }
+fn ranged(out: &mut [u8], at: usize, tag: u8, from: u64, to: u64) -> usize
+    ensures { λ r. ⌜ Puts (tag ∷ (shortest (zigzag (signed from)) ++ shortest (zigzag (signed to)))) (now (out .entry)) at (now (out .exit)) r ⌝ }
 {
     let behind = byte(out, at, tag);
     let first = signed(out, behind, from);
     signed(out, first, to)
 }
 
-fn boolean(out: &mut [u8], at: usize, value: bool) -> usize
-    ensures { λ r. ⌜ Puts ((if value then 2 else 1) ∷ []) (now (out .entry)) at (now (out .exit)) r ⌝ }
-{
-    if value {
-        byte(out, at, ConstantTag::TRUE)
-    } else {
-        byte(out, at, ConstantTag::FALSE)
-    }
-}
-
-fn int(out: &mut [u8], at: usize, n: i64) -> usize
-    ensures { λ r. ⌜ Puts (3 ∷ shortest (zigzag n)) (now (out .entry)) at (now (out .exit)) r ⌝ }
+fn int(out: &mut [u8], at: usize, w: u64) -> usize
+    ensures { λ r. ⌜ Puts (3 ∷ shortest (zigzag (signed w))) (now (out .entry)) at (now (out .exit)) r ⌝ }
 {
     let behind = byte(out, at, ConstantTag::INT);
-    signed(out, behind, n)
+    signed(out, behind, w)
 }
 
 fn float(out: &mut [u8], at: usize, bits: u64) -> usize
@@ -74,123 +65,98 @@ fn float(out: &mut [u8], at: usize, bits: u64) -> usize
     low_bytes(out, behind, 8, bits)
 }
 
-fn pointer(out: &mut [u8], at: usize, s: &[u8], name: Span, items: u64) -> usize
-    ensures { λ r. ⌜ Puts (0x0D ∷ (definition.putBytes (clip (now (s .entry)) name) ++ shortest items)) (now (out .entry)) at (now (out .exit)) r ⌝ }
+fn character(out: &mut [u8], at: usize, w: u64) -> usize
+    ensures { λ r. ⌜ Puts (5 ∷ shortest (index w)) (now (out .entry)) at (now (out .exit)) r ⌝ }
 {
-    let named = texted(out, at, ConstantTag::FN_PTR, s, name);
+    let behind = byte(out, at, ConstantTag::CHAR);
+    index(out, behind, w)
+}
+
+fn pointer(out: &mut [u8], at: usize, s: &[u8], start: u64, size: u64, items: u64) -> usize
+    ensures { λ r. ⌜ Puts (0x0D ∷ (definition.putBytes (clip (now (s .entry)) (record { start = start; size = size })) ++ shortest items)) (now (out .entry)) at (now (out .exit)) r ⌝ }
+{
+    let named = texted(out, at, ConstantTag::FN_PTR, s, start, size);
     number(out, named, items)
 }
 
-// All before the items.
-fn head(out: &mut [u8], at: usize, s: &[u8], c: Constant) -> usize
-    ensures { λ r. ⌜ Puts (headBytes (now (s .entry)) c) (now (out .entry)) at (now (out .exit)) r ⌝ }
+// Arrays, maps, blobs, ranges and, by every other tag, function pointers.
+fn compound(out: &mut [u8], at: usize, s: &[u8], row: [u64; 8]) -> usize
+    ensures { λ r. ⌜ Puts (headBytes (now (s .entry)) (compoundOf row)) (now (out .entry)) at (now (out .exit)) r ⌝ }
 {
-    match c {
-        Constant::Unit => byte(out, at, ConstantTag::UNIT),
-        Constant::Boolean { value } => boolean(out, at, value),
-        Constant::Int(n) => int(out, at, n),
-        Constant::Float { bits } => float(out, at, bits),
-        Constant::Char { code } => tagged(out, at, ConstantTag::CHAR, code as u64),
-        Constant::Str(span) => texted(out, at, ConstantTag::STRING, s, span),
-        Constant::Array { items } => tagged(out, at, ConstantTag::ARRAY, items),
-        Constant::Map { items } => tagged(out, at, ConstantTag::MAP, items),
-        Constant::Blob(span) => texted(out, at, ConstantTag::BLOB, s, span),
-        Constant::Range { from, to } => ranged(out, at, ConstantTag::RANGE, from, to),
-        Constant::RangeInclusive { from, to } => {
-            ranged(out, at, ConstantTag::RANGE_INCLUSIVE, from, to)
-        }
-        Constant::Pointer {
-            name,
-            items,
-            kind: _,
-        } => pointer(out, at, s, name, items),
+    let tag = row[0];
+    if tag == ConstantTag::ARRAY as u64 {
+        return tagged(out, at, ConstantTag::ARRAY, row[5]);
     }
+    if tag == ConstantTag::MAP as u64 {
+        return tagged(out, at, ConstantTag::MAP, row[5]);
+    }
+    if tag == ConstantTag::BLOB as u64 {
+        return texted(out, at, ConstantTag::BLOB, s, row[3], row[4]);
+    }
+    if tag == ConstantTag::RANGE as u64 {
+        return ranged(out, at, ConstantTag::RANGE, row[1], row[2]);
+    }
+    if tag == ConstantTag::RANGE_INCLUSIVE as u64 {
+        return ranged(out, at, ConstantTag::RANGE_INCLUSIVE, row[1], row[2]);
+    }
+    pointer(out, at, s, row[3], row[4], row[5])
 }
 
-fn kind(out: &mut [u8], at: usize, k: Kind) -> usize
-    ensures { λ r. ⌜ Puts (definition.putKind (tree.kind k)) (now (out .entry)) at (now (out .exit)) r ⌝ }
+// All before the items.
+fn head(out: &mut [u8], at: usize, s: &[u8], row: [u64; 8]) -> usize
+    ensures { λ r. ⌜ Puts (headBytes (now (s .entry)) (constantOf row)) (now (out .entry)) at (now (out .exit)) r ⌝ }
 {
-    match k {
-        Kind::Normal => byte(out, at, PointerTag::NORMAL),
-        Kind::Script { parameters } => tagged(out, at, PointerTag::SCRIPT, parameters),
+    let tag = row[0];
+    if tag == ConstantTag::UNIT as u64 {
+        return byte(out, at, ConstantTag::UNIT);
+    }
+    if tag == ConstantTag::FALSE as u64 {
+        return byte(out, at, ConstantTag::FALSE);
+    }
+    if tag == ConstantTag::TRUE as u64 {
+        return byte(out, at, ConstantTag::TRUE);
+    }
+    if tag == ConstantTag::INT as u64 {
+        return int(out, at, row[1]);
+    }
+    if tag == ConstantTag::FLOAT as u64 {
+        return float(out, at, row[1]);
+    }
+    if tag == ConstantTag::CHAR as u64 {
+        return character(out, at, row[1]);
+    }
+    if tag == ConstantTag::STRING as u64 {
+        return texted(out, at, ConstantTag::STRING, s, row[3], row[4]);
+    }
+    compound(out, at, s, row)
+}
+
+fn kind(out: &mut [u8], at: usize, tag: u64, parameters: u64) -> usize
+    ensures { λ r. ⌜ Puts (definition.putKind (tree.kind (kindOf tag parameters))) (now (out .entry)) at (now (out .exit)) r ⌝ }
+{
+    if tag == PointerTag::NORMAL as u64 {
+        byte(out, at, PointerTag::NORMAL)
+    } else {
+        tagged(out, at, PointerTag::SCRIPT, parameters)
     }
 }
 
 // All behind the items.
-fn foot(out: &mut [u8], at: usize, c: Constant) -> usize
-    ensures { λ r. ⌜ Puts (footBytes c) (now (out .entry)) at (now (out .exit)) r ⌝ }
+fn foot(out: &mut [u8], at: usize, row: [u64; 8]) -> usize
+    ensures { λ r. ⌜ Puts (footBytes (constantOf row)) (now (out .entry)) at (now (out .exit)) r ⌝ }
 {
-    match c {
-        Constant::Pointer {
-            name: _,
-            items: _,
-            kind: k,
-        } => kind(out, at, k),
-        Constant::Unit => at,
-        Constant::Boolean { value: _ } => at,
-        Constant::Int(_) => at,
-        Constant::Float { bits: _ } => at,
-        Constant::Char { code: _ } => at,
-        Constant::Str(_) => at,
-        Constant::Array { items: _ } => at,
-        Constant::Map { items: _ } => at,
-        Constant::Blob(_) => at,
-        Constant::Range { from: _, to: _ } => at,
-        Constant::RangeInclusive { from: _, to: _ } => at,
+    if owning::pointer(row[0]) {
+        kind(out, at, row[1], row[2])
+    } else {
+        at
     }
 }
 
-fn items_of(c: Constant) -> u64
-    ensures { λ r. ⌜ r ≡ tree.itemsOf c ⌝ }
-{
-    match c {
-        Constant::Array { items } => items,
-        Constant::Map { items } => items,
-        Constant::Pointer {
-            name: _,
-            items,
-            kind: _,
-        } => items,
-        Constant::Unit => 0,
-        Constant::Boolean { value: _ } => 0,
-        Constant::Int(_) => 0,
-        Constant::Float { bits: _ } => 0,
-        Constant::Char { code: _ } => 0,
-        Constant::Str(_) => 0,
-        Constant::Blob(_) => 0,
-        Constant::Range { from: _, to: _ } => 0,
-        Constant::RangeInclusive { from: _, to: _ } => 0,
-    }
-}
-
-fn has_keys(c: Constant) -> bool
-    ensures { λ r. ⌜ r ≡ keysOf c ⌝ }
-{
-    match c {
-        Constant::Map { items: _ } => true,
-        Constant::Unit => false,
-        Constant::Boolean { value: _ } => false,
-        Constant::Int(_) => false,
-        Constant::Float { bits: _ } => false,
-        Constant::Char { code: _ } => false,
-        Constant::Str(_) => false,
-        Constant::Array { items: _ } => false,
-        Constant::Blob(_) => false,
-        Constant::Range { from: _, to: _ } => false,
-        Constant::RangeInclusive { from: _, to: _ } => false,
-        Constant::Pointer {
-            name: _,
-            items: _,
-            kind: _,
-        } => false,
-    }
-}
-
-fn key(out: &mut [u8], at: usize, s: &[u8], keys: bool, span: Span) -> usize
-    ensures { λ r. ⌜ Puts (keyBytes (now (s .entry)) keys span) (now (out .entry)) at (now (out .exit)) r ⌝ }
+fn key(out: &mut [u8], at: usize, s: &[u8], keys: bool, row: [u64; 8]) -> usize
+    ensures { λ r. ⌜ Puts (keyBytes (now (s .entry)) keys (keyedOf row .key)) (now (out .entry)) at (now (out .exit)) r ⌝ }
 {
     if keys {
-        text(out, at, s, span)
+        text(out, at, s, row[6], row[7])
     } else {
         at
     }
@@ -215,18 +181,26 @@ fn items(
     let mut next = from;
     let mut left = n;
     while 0 < left {
-        let k = keyed_at(t, next);
-        let named = k.key;
-        let c = k.constant;
-        let behind = key(out, place, s, keys, named);
-        let told = head(out, behind, s, c);
-        let own = items_of(c);
+        let row = row::of_eight(t, next * 8);
+        let behind = key(out, place, s, keys, row);
+        let told = head(out, behind, s, row);
+        let own = items_of(row);
         if own == 0 {
-            place = foot(out, told, c);
+            place = foot(out, told, row);
             next += 1;
         } else {
-            let inner = items(out, told, t, used, next + 1, own, has_keys(c), deep - 1, s);
-            place = foot(out, inner.place, c);
+            let inner = items(
+                out,
+                told,
+                t,
+                used,
+                next + 1,
+                own,
+                has_keys(row),
+                deep - 1,
+                s,
+            );
+            place = foot(out, inner.place, row);
             next = inner.next;
         }
         left -= 1;

@@ -8,6 +8,7 @@ pub mod constant;
 pub mod header;
 pub mod lists;
 pub mod numbers;
+pub mod owning;
 mod places;
 pub mod records;
 pub mod switch;

@@ -2,9 +2,6 @@
 ghost use mathlib.Core.Path.{_≡_};
 ghost use Prim.Native.Nat.{_+_, _*_, _≤_};
 ghost use lib.ListN.{length, take, drop};
-ghost use Rattle.rows.specs.Back as definition;
-use rows::constants::Keyed;
-use rows::constants::keyed_of;
 use rows::row;
 
 pub fn row_of_one(t: &[u64], k: usize) -> [u64; 1]
@@ -68,12 +65,4 @@ pub fn row_of_eleven(t: &[u64], k: usize) -> [u64; 11]
     ensures { λ r. ⌜ r ≡ take 11 (drop (k * 11) (now (t .entry))) ⌝ }
 {
     row::of_eleven(t, k * 11)
-}
-
-// A constant is made of its row.
-pub fn keyed_at(t: &[u64], k: usize) -> Keyed
-    requires { ⌜ (k + 1) * 8 ≤ length (now t) ⌝ }
-    ensures { λ r. ⌜ r ≡ definition.keyedOf (take 8 (drop (k * 8) (now (t .entry)))) ⌝ }
-{
-    keyed_of(row::of_eight(t, k * 8))
 }

@@ -3,7 +3,7 @@ use Prim.Native.Nat.{ℕ, _+_, _≤_}
 use mathlib.Core.Bool.{Bool, _||_}
 use mathlib.Core.Path.{_≡_}
 use mathlib.Core.List.{List}
-use lib.Dec.{eqb, ltb}
+use lib.Dec.{eqb}
 use lib.ListN.{length}
 use Rattle.grammar.specs.Combinators.{if_then_else_, putAll}
 use Rattle.grammar.specs.Number.{shortest, zigzag}
@@ -11,18 +11,12 @@ use Rattle.rows.specs.Back.{word, index, signed, kindOf}
 use Rattle.rows.specs.Tree.{kind, grow}
 use Rattle.written.specs.Put.{putKind}
 use Rattle.emit.specs.Constants.{rowsFrom, putItem}
+use Rattle.emit.specs.Tags.{isPointer, isList}
 use Rattle.sizes.specs.Counts.{Counts}
 use Rattle.sizes.specs.declared.constant.Reached.{Reached}
 
--- every tag behind the others means a function pointer
-abbrev pub isPointer : ℕ → Bool
-isPointer tag = ltb 0x0B tag
-
 abbrev pub isRange : ℕ → Bool
 isRange tag = eqb tag 0x0A || eqb tag 0x0B
-
-abbrev pub isList : ℕ → Bool
-isList tag = isPointer tag || (eqb tag 0x07 || eqb tag 0x08)
 
 abbrev pub hasText : ℕ → Bool
 hasText tag = isPointer tag || (eqb tag 0x06 || eqb tag 0x09)

@@ -1,6 +1,5 @@
 // Constants: each one's own size, and its items' one level deeper. Only where a constant has items there is a call.
 ghost use mathlib.Core.Path.{_≡_};
-ghost use mathlib.Core.Bool.{_||_};
 ghost use mathlib.Core.List.{_++_};
 ghost use Prim.Native.Nat.{_≤_};
 ghost use lib.ListN.{length};
@@ -10,13 +9,18 @@ ghost use Rattle.rows.specs.Tree as tree;
 ghost use Rattle.written.specs.Put as definition;
 ghost use Rattle.emit.specs.Constants.{headBytes, footBytes, keyBytes, ItemsStand, ConstantsFit, constantsOf};
 ghost use Rattle.sizes.specs.Counts.{Counts};
-ghost use Rattle.sizes.specs.Items.{isPointer, isRange, isList, hasText, whereUsed, wordsOf, CountsItems};
+ghost use Rattle.sizes.specs.Items.{isRange, hasText, whereUsed, wordsOf, CountsItems};
 use crate::base::choose;
 use crate::base::number;
 use crate::base::plus;
 use crate::base::text;
 use crate::words::index;
 use crate::words::signed;
+use emit::owning::either;
+use emit::owning::has_keys;
+use emit::owning::items_of;
+use emit::owning::listed;
+use emit::owning::pointer;
 use format::tags::ConstantTag;
 use format::tags::Limit;
 use format::tags::PointerTag;
@@ -29,24 +33,11 @@ pub struct Reached {
     pub next: usize,
 }
 
-fn either(a: bool, b: bool) -> bool
-    ensures { λ r. ⌜ r ≡ a || b ⌝ }
-{
-    if a { true } else { b }
-}
-
 fn when(yes: bool, n: usize) -> usize
     ensures { λ r. ⌜ r ≡ whereUsed yes n ⌝ }
     ensures { λ r. ⌜ r ≤ n ⌝ }
 {
     choose(yes, n, 0)
-}
-
-// A function pointer, which every tag behind the others means.
-fn pointer(tag: u64) -> bool
-    ensures { λ r. ⌜ r ≡ isPointer tag ⌝ }
-{
-    (ConstantTag::RANGE_INCLUSIVE as u64) < tag
 }
 
 fn ranged(tag: u64) -> bool
@@ -55,19 +46,6 @@ fn ranged(tag: u64) -> bool
     either(
         tag == ConstantTag::RANGE as u64,
         tag == ConstantTag::RANGE_INCLUSIVE as u64,
-    )
-}
-
-// An array, a map and a function pointer.
-fn listed(tag: u64) -> bool
-    ensures { λ r. ⌜ r ≡ isList tag ⌝ }
-{
-    either(
-        pointer(tag),
-        either(
-            tag == ConstantTag::ARRAY as u64,
-            tag == ConstantTag::MAP as u64,
-        ),
     )
 }
 
@@ -133,12 +111,6 @@ fn key(at: usize, s: &[u8], keys: bool, row: [u64; 8]) -> usize
     plus(at, when(keys, text(0, s, span)))
 }
 
-fn items_of(row: [u64; 8]) -> u64
-    ensures { λ r. ⌜ r ≡ tree.itemsOf (constantOf row) ⌝ }
-{
-    if listed(row[0]) { row[5] } else { 0 }
-}
-
 // n constants from a row on, each with all that it owns, one level deeper; a map's have keys.
 fn items(
     at: usize,
@@ -164,16 +136,7 @@ fn items(
             place = behind;
             next += 1;
         } else {
-            let inner = items(
-                behind,
-                t,
-                used,
-                next + 1,
-                own,
-                row[0] == ConstantTag::MAP as u64,
-                deep - 1,
-                s,
-            );
+            let inner = items(behind, t, used, next + 1, own, has_keys(row), deep - 1, s);
             place = inner.place;
             next = inner.next;
         }

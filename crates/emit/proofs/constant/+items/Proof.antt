@@ -2,20 +2,24 @@
 -- before the next row are put, and the others still come.
 use Prim.Native.Nat.{ℕ, _<_}
 use mathlib.Core.Logic.{⊎-elim}
+use mathlib.Core.Path.{_∙_, ap}
+use mathlib.Core.List.{List}
 use native.Mathlib.Omega.{arith}
 use borrow.Author.Needs.{needs}
 use borrow.Fn.Kinds.{In}
 use borrow.Fn.PlainCycle.{Measures, is, falls, and}
+use Rattle.rows.specs.Back.{constantOf, keyedOf}
+use Rattle.rows.specs.Tree.{itemsOf}
 use Rattle.emit.proofs.Growing.{turn-of, Growing, growing-none, growing-more, growing-alone, growing-done}
 use Rattle.emit.proofs.constant.items.Reads as items
 use Rattle.emit.proofs.constant.items.Kinds as items-kinds
 use Rattle.emit.proofs.constant.+items.Lts-items as items-lts
 use Rattle.emit.proofs.constant.foot.Reads as foot-reads
-use Rattle.emit.proofs.constant.has_keys.Reads as has-keys-reads
 use Rattle.emit.proofs.constant.head.Reads as head-reads
-use Rattle.emit.proofs.constant.items_of.Reads as items-of-reads
 use Rattle.emit.proofs.constant.key.Reads as key-reads
-use Rattle.emit.proofs.places.keyed_at.Reads as keyed-at-reads
+use Rattle.emit.proofs.owning.has_keys.Reads as has-keys-reads
+use Rattle.emit.proofs.owning.items_of.Reads as items-of-reads
+use Rattle.rows.proofs.row.of_eight.Reads as of-eight-reads
 use Rattle.emit.proofs.constant.+items.{statement}
 use Rattle.emit.proofs.constant.+items.Tie.{close}
 
@@ -32,8 +36,8 @@ items-below t = and 3 items-kinds.ps (falls 3 items-kinds.ps _<_ μ-items t) ite
 -- what it calls
 abbrev items-calls : ℕ → items-lts.Claims
 items-calls t = (
-  keyed-at-reads.Asked,
-  keyed-at-reads.Learnt,
+  of-eight-reads.Asked,
+  of-eight-reads.Learnt,
   key-reads.Asked,
   key-reads.Learnt,
   head-reads.Asked,
@@ -58,8 +62,11 @@ items-μ-loop out₀ at t used from n keys deep s place₀ next₀ left₀ out p
 items-loop-holds : (t : ℕ) → items-lts.Need-loop-holds (items-calls t) (items-at t) items.Post items-Inv-loop items-μ-loop
 items-loop-holds t c = growing-none (c .before .before .before .pre .1)
 
-items-keyed-at-requires : (t : ℕ) → items-lts.Need-keyed-at-requires (items-calls t) (items-at t) items.Post items-Inv-loop items-μ-loop
-items-keyed-at-requires t c κs = (turn-of (c .before .before .before .before .before .args .deep) (c .before .loop .left) (c .before .loop .inv .stand) (c .loop-test .taken)) .row
+items-mul-of-eight : (t : ℕ) → items-lts.Need-mul-of-eight (items-calls t) (items-at t) items.Post items-Inv-loop items-μ-loop
+items-mul-of-eight t c = omega (arith, (turn-of (c .before .before .before .before .before .args .deep) (c .before .loop .left) (c .before .loop .inv .stand) (c .loop-test .taken)) .row)
+
+items-of-eight-requires : (t : ℕ) → items-lts.Need-of-eight-requires (items-calls t) (items-at t) items.Post items-Inv-loop items-μ-loop
+items-of-eight-requires t c κs = omega (arith, (turn-of (c .before .before .before .before .before .args .deep) (c .before .loop .left) (c .before .loop .inv .stand) (c .loop-test .taken)) .row)
 
 items-key-requires : (t : ℕ) → items-lts.Need-key-requires (items-calls t) (items-at t) items.Post items-Inv-loop items-μ-loop
 items-key-requires t c κs = search needs
@@ -74,19 +81,19 @@ items-foot-requires : (t : ℕ) → items-lts.Need-foot-requires (items-calls t)
 items-foot-requires t c κs = search needs
 
 items-add-next : (t : ℕ) → items-lts.Need-add-next (items-calls t) (items-at t) items.Post items-Inv-loop items-μ-loop
-items-add-next t c = omega (arith, (turn-of (c .before .before .before .before .before .before .before .before .before .before .before .before .before .before .before .before .before .before .before .before .before .args .deep) (c .before .before .before .before .before .before .before .before .before .before .before .before .before .before .before .before .before .loop .left) (c .before .before .before .before .before .before .before .before .before .before .before .before .before .before .before .before .before .loop .inv .stand) (c .before .before .before .before .before .before .before .before .before .before .before .before .before .before .before .before .loop-test .taken)) .row)
+items-add-next t c = omega (arith, (turn-of (c .before .before .before .before .before .before .before .before .before .before .before .before .before .before .before .before .before .before .before .before .args .deep) (c .before .before .before .before .before .before .before .before .before .before .before .before .before .before .before .before .loop .left) (c .before .before .before .before .before .before .before .before .before .before .before .before .before .before .before .before .loop .inv .stand) (c .before .before .before .before .before .before .before .before .before .before .before .before .before .before .before .loop-test .taken)) .row)
 
 items-add-items : (t : ℕ) → items-lts.Need-add-items (items-calls t) (items-at t) items.Post items-Inv-loop items-μ-loop
-items-add-items t c = omega (arith, (turn-of (c .before .before .before .before .before .before .before .before .before .before .before .before .before .before .before .before .before .before .args .deep) (c .before .before .before .before .before .before .before .before .before .before .before .before .before .before .loop .left) (c .before .before .before .before .before .before .before .before .before .before .before .before .before .before .loop .inv .stand) (c .before .before .before .before .before .before .before .before .before .before .before .before .before .loop-test .taken)) .row)
+items-add-items t c = omega (arith, (turn-of (c .before .before .before .before .before .before .before .before .before .before .before .before .before .before .before .before .before .args .deep) (c .before .before .before .before .before .before .before .before .before .before .before .before .before .loop .left) (c .before .before .before .before .before .before .before .before .before .before .before .before .before .loop .inv .stand) (c .before .before .before .before .before .before .before .before .before .before .before .before .loop-test .taken)) .row)
 
 items-has-keys-requires : (t : ℕ) → items-lts.Need-has-keys-requires (items-calls t) (items-at t) items.Post items-Inv-loop items-μ-loop
 items-has-keys-requires t c κs = search needs
 
 items-sub-items : (t : ℕ) → items-lts.Need-sub-items (items-calls t) (items-at t) items.Post items-Inv-loop items-μ-loop
-items-sub-items t c = omega (arith, (turn-of (c .before .before .before .before .before .before .before .before .before .before .before .before .before .before .before .before .before .before .before .args .deep) (c .before .before .before .before .before .before .before .before .before .before .before .before .before .before .before .loop .left) (c .before .before .before .before .before .before .before .before .before .before .before .before .before .before .before .loop .inv .stand) (c .before .before .before .before .before .before .before .before .before .before .before .before .before .before .loop-test .taken)) .deep)
+items-sub-items t c = omega (arith, (turn-of (c .before .before .before .before .before .before .before .before .before .before .before .before .before .before .before .before .before .before .args .deep) (c .before .before .before .before .before .before .before .before .before .before .before .before .before .before .loop .left) (c .before .before .before .before .before .before .before .before .before .before .before .before .before .before .loop .inv .stand) (c .before .before .before .before .before .before .before .before .before .before .before .before .before .loop-test .taken)) .deep)
 
 items-items-requires : (t : ℕ) → items-lts.Need-items-requires (items-calls t) (items-at t) items.Post items-Inv-loop items-μ-loop
-items-items-requires t c κs = (omega (arith, c .before .before .before .before .before .before .before .before .before .before .before .before .before .before .before .before .before .before .before .pre .0, (turn-of (c .before .before .before .before .before .before .before .before .before .before .before .before .before .before .before .before .before .before .before .args .deep) (c .before .before .before .before .before .before .before .before .before .before .before .before .before .before .before .loop .left) (c .before .before .before .before .before .before .before .before .before .before .before .before .before .before .before .loop .inv .stand) (c .before .before .before .before .before .before .before .before .before .before .before .before .before .before .loop-test .taken)) .deep), rw (c .before .before .before .items-of .ensures, c .before .before .before .before .before .before .before .before .before .before .before .before .before .keyed-at .ensures) ((turn-of (c .before .before .before .before .before .before .before .before .before .before .before .before .before .before .before .before .before .before .before .args .deep) (c .before .before .before .before .before .before .before .before .before .before .before .before .before .before .before .loop .left) (c .before .before .before .before .before .before .before .before .before .before .before .before .before .before .before .loop .inv .stand) (c .before .before .before .before .before .before .before .before .before .before .before .before .before .before .loop-test .taken)) .items))
+items-items-requires t c κs = (omega (arith, c .before .before .before .before .before .before .before .before .before .before .before .before .before .before .before .before .before .before .pre .0, (turn-of (c .before .before .before .before .before .before .before .before .before .before .before .before .before .before .before .before .before .before .args .deep) (c .before .before .before .before .before .before .before .before .before .before .before .before .before .before .loop .left) (c .before .before .before .before .before .before .before .before .before .before .before .before .before .before .loop .inv .stand) (c .before .before .before .before .before .before .before .before .before .before .before .before .before .loop-test .taken)) .deep), rw (c .before .before .before .items-of .ensures ∙ ap (λ (row : List ℕ). itemsOf (constantOf row)) (c .before .before .before .before .before .before .before .before .before .before .before .before .of-eight .ensures)) ((turn-of (c .before .before .before .before .before .before .before .before .before .before .before .before .before .before .before .before .before .before .args .deep) (c .before .before .before .before .before .before .before .before .before .before .before .before .before .before .loop .left) (c .before .before .before .before .before .before .before .before .before .before .before .before .before .before .loop .inv .stand) (c .before .before .before .before .before .before .before .before .before .before .before .before .before .loop-test .taken)) .items))
 
 items-foot-requires-2 : (t : ℕ) → items-lts.Need-foot-requires-2 (items-calls t) (items-at t) items.Post items-Inv-loop items-μ-loop
 items-foot-requires-2 t c κs = search needs
@@ -100,8 +107,8 @@ items-loop-less t c = omega arith
 items-loop-again : (t : ℕ) → items-lts.Need-loop-again (items-calls t) (items-at t) items.Post items-Inv-loop items-μ-loop
 items-loop-again t c =
     ⊎-elim
-    (λ w. rw (w .5, w .6, w .7) (growing-alone (c .before .before .before .before .before .before .before .before .before .before .before .before .before .before .before .before .before .args .deep) (c .before .before .before .before .before .before .before .before .before .before .before .before .before .loop .left) (c .before .before .before .before .before .before .before .before .before .before .before .before .before .loop .inv) (c .before .before .before .before .before .before .before .before .before .before .before .before .loop-test .taken) (c .before .before .before .before .before .before .before .before .before .before .before .keyed-at .ensures) (c .before .items-of .ensures) (w .0 .taken) (c .before .before .before .before .before .before .before .before .key .ensures) (c .before .before .before .before .head .ensures) (w .2 .ensures)))
-    (λ w. rw (w .10, w .11, w .12) (growing-more (c .before .before .before .before .before .before .before .before .before .before .before .before .before .before .before .before .before .args .deep) (c .before .before .before .before .before .before .before .before .before .before .before .before .before .loop .left) (c .before .before .before .before .before .before .before .before .before .before .before .before .before .loop .inv) (c .before .before .before .before .before .before .before .before .before .before .before .before .loop-test .taken) (c .before .before .before .before .before .before .before .before .before .before .before .keyed-at .ensures) (c .before .items-of .ensures) (w .2 .ensures) (c .before .before .before .before .before .before .before .before .key .ensures) (c .before .before .before .before .head .ensures) (w .3 .ensures) (w .7 .ensures)))
+    (λ w. rw (w .5, w .6, w .7) (growing-alone (c .before .before .before .before .before .before .before .before .before .before .before .before .before .before .before .before .args .deep) (c .before .before .before .before .before .before .before .before .before .before .before .before .loop .left) (c .before .before .before .before .before .before .before .before .before .before .before .before .loop .inv) (c .before .before .before .before .before .before .before .before .before .before .before .loop-test .taken) (ap keyedOf (c .before .before .before .before .before .before .before .before .before .before .of-eight .ensures)) (c .before .items-of .ensures) (w .0 .taken) (c .before .before .before .before .before .before .before .before .key .ensures) (c .before .before .before .before .head .ensures) (w .2 .ensures)))
+    (λ w. rw (w .10, w .11, w .12) (growing-more (c .before .before .before .before .before .before .before .before .before .before .before .before .before .before .before .before .args .deep) (c .before .before .before .before .before .before .before .before .before .before .before .before .loop .left) (c .before .before .before .before .before .before .before .before .before .before .before .before .loop .inv) (c .before .before .before .before .before .before .before .before .before .before .before .loop-test .taken) (ap keyedOf (c .before .before .before .before .before .before .before .before .before .before .of-eight .ensures)) (c .before .items-of .ensures) (w .2 .ensures) (c .before .before .before .before .before .before .before .before .key .ensures) (c .before .before .before .before .head .ensures) (w .3 .ensures) (w .7 .ensures)))
     (c .if1 .came)
 
 items-same-length : (t : ℕ) → items-lts.Need-same-length (items-calls t) (items-at t) items.Post items-Inv-loop items-μ-loop
@@ -121,7 +128,8 @@ pub +items-spec : {M : Type 1} → statement M
     items-Inv-loop
     items-μ-loop
     (items-loop-holds t)
-    (items-keyed-at-requires t)
+    (items-mul-of-eight t)
+    (items-of-eight-requires t)
     (items-key-requires t)
     (items-head-requires t)
     (items-items-of-requires t)

@@ -1,207 +1,158 @@
--- Variant by variant.
-use mir.Syntax.{w64}
-use mir.ValLaws.{toZ-ofZ}
+-- By the tag, as the definition tests it.
+use borrow.Author.Tests.{eq-eqb, ne-eqb}
 use borrow.Author.Needs.{needs}
 use Rattle.emit.proofs.constant.head.Statement.{statement}
 use Rattle.emit.proofs.constant.head.Tie as tie
 
-enum-told : tie.Need-enum-told
-enum-told c = search needs
+array-read-tag : tie.Need-array-read-tag
+array-read-tag c = search needs
+
+cast-if1 : tie.Need-cast-if1
+cast-if1 c = search needs
 
 byte-requires : tie.Need-byte-requires
 byte-requires c κs = search needs
-
-enum-known-c : tie.Need-enum-known-c
-enum-known-c c = search needs
-
-boolean-requires : tie.Need-boolean-requires
-boolean-requires c κs = search needs
-
-enum-known-c-2 : tie.Need-enum-known-c-2
-enum-known-c-2 c = search needs
-
-int-requires : tie.Need-int-requires
-int-requires c κs = search needs
-
-enum-known-c-3 : tie.Need-enum-known-c-3
-enum-known-c-3 c = search needs
-
-float-requires : tie.Need-float-requires
-float-requires c κs = search needs
-
-enum-known-c-4 : tie.Need-enum-known-c-4
-enum-known-c-4 c = search needs
-
-cast-tagged : tie.Need-cast-tagged
-cast-tagged c = search needs
-
-tagged-requires : tie.Need-tagged-requires
-tagged-requires c κs = search needs
-
-enum-known-c-5 : tie.Need-enum-known-c-5
-enum-known-c-5 c = search needs
-
-texted-requires : tie.Need-texted-requires
-texted-requires c κs = search needs
-
-enum-known-c-6 : tie.Need-enum-known-c-6
-enum-known-c-6 c = search needs
-
-tagged-requires-2 : tie.Need-tagged-requires-2
-tagged-requires-2 c κs = search needs
-
-enum-known-c-7 : tie.Need-enum-known-c-7
-enum-known-c-7 c = search needs
-
-tagged-requires-3 : tie.Need-tagged-requires-3
-tagged-requires-3 c κs = search needs
-
-enum-known-c-8 : tie.Need-enum-known-c-8
-enum-known-c-8 c = search needs
-
-texted-requires-2 : tie.Need-texted-requires-2
-texted-requires-2 c κs = search needs
-
-enum-known-c-9 : tie.Need-enum-known-c-9
-enum-known-c-9 c = search needs
-
-ranged-requires : tie.Need-ranged-requires
-ranged-requires c κs = search needs
-
-enum-known-c-10 : tie.Need-enum-known-c-10
-enum-known-c-10 c = search needs
-
-ranged-requires-2 : tie.Need-ranged-requires-2
-ranged-requires-2 c κs = search needs
-
-enum-known-c-11 : tie.Need-enum-known-c-11
-enum-known-c-11 c = search needs
-
-pointer-requires : tie.Need-pointer-requires
-pointer-requires c κs = search needs
 
 same-length : tie.Need-same-length
 same-length c = search needs
 
 returns : tie.Need-returns
-returns c = rw (c .before .before .before .before .enum-told .given .1) (c .before .before .byte .ensures)
+returns c = rw (eq-eqb _ _ (c .before .before .before .before .if1 .taken)) (c .before .before .byte .ensures)
+
+cast-if2 : tie.Need-cast-if2
+cast-if2 c = search needs
+
+byte-requires-2 : tie.Need-byte-requires-2
+byte-requires-2 c κs = search needs
 
 same-length-2 : tie.Need-same-length-2
 same-length-2 c = search needs
 
 returns-2 : tie.Need-returns-2
-returns-2 c = rw (c .before .before .before .before .before .c .given .1) (c .before .before .boolean .ensures)
+returns-2 c = rw (ne-eqb _ _ (c .before .before .before .before .before .if1 .left), eq-eqb _ _ (c .before .before .before .before .if2 .taken)) (c .before .before .byte2 .ensures)
+
+cast-if3 : tie.Need-cast-if3
+cast-if3 c = search needs
+
+byte-requires-3 : tie.Need-byte-requires-3
+byte-requires-3 c κs = search needs
 
 same-length-3 : tie.Need-same-length-3
 same-length-3 c = search needs
 
 returns-3 : tie.Need-returns-3
-returns-3 c = rw (c .before .before .before .before .before .c2 .given .1) (rw (toZ-ofZ w64 (c .before .before .before .before .before .c2 .given .0 .0) (record { sfits = c .before .before .before .before .known-told2 .given .0 .1 })) at (c .before .before .int .ensures))
+returns-3 c = rw (ne-eqb _ _ (c .before .before .before .before .before .before .if1 .left), ne-eqb _ _ (c .before .before .before .before .before .if2 .left), eq-eqb _ _ (c .before .before .before .before .if3 .taken)) (c .before .before .byte3 .ensures)
+
+cast-if4 : tie.Need-cast-if4
+cast-if4 c = search needs
+
+array-read-int : tie.Need-array-read-int
+array-read-int c = search needs
+
+int-requires : tie.Need-int-requires
+int-requires c κs = search needs
 
 same-length-4 : tie.Need-same-length-4
 same-length-4 c = search needs
 
 returns-4 : tie.Need-returns-4
-returns-4 c = rw (c .before .before .before .before .before .c3 .given .1) (c .before .before .float .ensures)
+returns-4 c = rw (ne-eqb _ _ (c .before .before .before .before .before .before .before .if1 .left), ne-eqb _ _ (c .before .before .before .before .before .before .if2 .left), ne-eqb _ _ (c .before .before .before .before .before .if3 .left), eq-eqb _ _ (c .before .before .before .before .if4 .taken)) (c .before .before .int .ensures)
+
+cast-if5 : tie.Need-cast-if5
+cast-if5 c = search needs
+
+array-read-float : tie.Need-array-read-float
+array-read-float c = search needs
+
+float-requires : tie.Need-float-requires
+float-requires c κs = search needs
 
 same-length-5 : tie.Need-same-length-5
 same-length-5 c = search needs
 
 returns-5 : tie.Need-returns-5
-returns-5 c = rw (c .before .before .before .before .before .c4 .given .1) (c .before .before .tagged .ensures)
+returns-5 c = rw (ne-eqb _ _ (c .before .before .before .before .before .before .before .before .if1 .left), ne-eqb _ _ (c .before .before .before .before .before .before .before .if2 .left), ne-eqb _ _ (c .before .before .before .before .before .before .if3 .left), ne-eqb _ _ (c .before .before .before .before .before .if4 .left), eq-eqb _ _ (c .before .before .before .before .if5 .taken)) (c .before .before .float .ensures)
+
+cast-if6 : tie.Need-cast-if6
+cast-if6 c = search needs
+
+array-read-character : tie.Need-array-read-character
+array-read-character c = search needs
+
+character-requires : tie.Need-character-requires
+character-requires c κs = search needs
 
 same-length-6 : tie.Need-same-length-6
 same-length-6 c = search needs
 
 returns-6 : tie.Need-returns-6
-returns-6 c = rw (c .before .before .before .before .before .c5 .given .1) (c .before .before .texted .ensures)
+returns-6 c = rw (ne-eqb _ _ (c .before .before .before .before .before .before .before .before .before .if1 .left), ne-eqb _ _ (c .before .before .before .before .before .before .before .before .if2 .left), ne-eqb _ _ (c .before .before .before .before .before .before .before .if3 .left), ne-eqb _ _ (c .before .before .before .before .before .before .if4 .left), ne-eqb _ _ (c .before .before .before .before .before .if5 .left), eq-eqb _ _ (c .before .before .before .before .if6 .taken)) (c .before .before .character .ensures)
+
+cast-if7 : tie.Need-cast-if7
+cast-if7 c = search needs
+
+array-read-texted : tie.Need-array-read-texted
+array-read-texted c = search needs
+
+array-read-texted-2 : tie.Need-array-read-texted-2
+array-read-texted-2 c = search needs
+
+texted-requires : tie.Need-texted-requires
+texted-requires c κs = search needs
 
 same-length-7 : tie.Need-same-length-7
 same-length-7 c = search needs
 
 returns-7 : tie.Need-returns-7
-returns-7 c = rw (c .before .before .before .before .before .c6 .given .1) (c .before .before .tagged2 .ensures)
+returns-7 c = rw (ne-eqb _ _ (c .before .before .before .before .before .before .before .before .before .before .if1 .left), ne-eqb _ _ (c .before .before .before .before .before .before .before .before .before .if2 .left), ne-eqb _ _ (c .before .before .before .before .before .before .before .before .if3 .left), ne-eqb _ _ (c .before .before .before .before .before .before .before .if4 .left), ne-eqb _ _ (c .before .before .before .before .before .before .if5 .left), ne-eqb _ _ (c .before .before .before .before .before .if6 .left), eq-eqb _ _ (c .before .before .before .before .if7 .taken)) (c .before .before .texted .ensures)
+
+compound-requires : tie.Need-compound-requires
+compound-requires c κs = search needs
 
 same-length-8 : tie.Need-same-length-8
 same-length-8 c = search needs
 
 returns-8 : tie.Need-returns-8
-returns-8 c = rw (c .before .before .before .before .before .c7 .given .1) (c .before .before .tagged3 .ensures)
-
-same-length-9 : tie.Need-same-length-9
-same-length-9 c = search needs
-
-returns-9 : tie.Need-returns-9
-returns-9 c = rw (c .before .before .before .before .before .c8 .given .1) (c .before .before .texted2 .ensures)
-
-same-length-10 : tie.Need-same-length-10
-same-length-10 c = search needs
-
-returns-10 : tie.Need-returns-10
-returns-10 c = rw (c .before .before .before .before .before .c9 .given .1) (rw (toZ-ofZ w64 (c .before .before .before .before .before .c9 .given .0 .0) (record { sfits = c .before .before .before .before .known-told9 .given .0 .1 }), toZ-ofZ w64 (c .before .before .before .before .before .c9 .given .0 .1 .0) (record { sfits = c .before .before .before .before .known-told9 .given .1 .0 .1 })) at (c .before .before .ranged .ensures))
-
-same-length-11 : tie.Need-same-length-11
-same-length-11 c = search needs
-
-returns-11 : tie.Need-returns-11
-returns-11 c = rw (c .before .before .before .before .before .c10 .given .1) (rw (toZ-ofZ w64 (c .before .before .before .before .before .c10 .given .0 .0) (record { sfits = c .before .before .before .before .known-told10 .given .0 .1 }), toZ-ofZ w64 (c .before .before .before .before .before .c10 .given .0 .1 .0) (record { sfits = c .before .before .before .before .known-told10 .given .1 .0 .1 })) at (c .before .before .ranged2 .ensures))
-
-same-length-12 : tie.Need-same-length-12
-same-length-12 c = search needs
-
-returns-12 : tie.Need-returns-12
-returns-12 c = rw (c .before .before .before .before .before .c11 .given .1) (c .before .before .pointer .ensures)
+returns-8 c = rw (ne-eqb _ _ (c .before .before .before .before .before .before .before .before .before .before .if1 .left), ne-eqb _ _ (c .before .before .before .before .before .before .before .before .before .if2 .left), ne-eqb _ _ (c .before .before .before .before .before .before .before .before .if3 .left), ne-eqb _ _ (c .before .before .before .before .before .before .before .if4 .left), ne-eqb _ _ (c .before .before .before .before .before .before .if5 .left), ne-eqb _ _ (c .before .before .before .before .before .if6 .left), ne-eqb _ _ (c .before .before .before .before .if7 .left)) (c .before .before .compound .ensures)
 
 pub head-spec : {M : Type 1} → statement M
 head-spec =
     tie.close
     (tie.spec
-    enum-told
+    array-read-tag
+    cast-if1
     byte-requires
-    enum-known-c
-    boolean-requires
-    enum-known-c-2
-    int-requires
-    enum-known-c-3
-    float-requires
-    enum-known-c-4
-    cast-tagged
-    tagged-requires
-    enum-known-c-5
-    texted-requires
-    enum-known-c-6
-    tagged-requires-2
-    enum-known-c-7
-    tagged-requires-3
-    enum-known-c-8
-    texted-requires-2
-    enum-known-c-9
-    ranged-requires
-    enum-known-c-10
-    ranged-requires-2
-    enum-known-c-11
-    pointer-requires
     same-length
     returns
+    cast-if2
+    byte-requires-2
     same-length-2
     returns-2
+    cast-if3
+    byte-requires-3
     same-length-3
     returns-3
+    cast-if4
+    array-read-int
+    int-requires
     same-length-4
     returns-4
+    cast-if5
+    array-read-float
+    float-requires
     same-length-5
     returns-5
+    cast-if6
+    array-read-character
+    character-requires
     same-length-6
     returns-6
+    cast-if7
+    array-read-texted
+    array-read-texted-2
+    texted-requires
     same-length-7
     returns-7
+    compound-requires
     same-length-8
-    returns-8
-    same-length-9
-    returns-9
-    same-length-10
-    returns-10
-    same-length-11
-    returns-11
-    same-length-12
-    returns-12)
+    returns-8)

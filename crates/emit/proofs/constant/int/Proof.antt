@@ -1,6 +1,4 @@
 -- One field behind another.
-use mir.Syntax.{w64}
-use mir.ValLaws.{toZ-ofZ}
 use Rattle.emit.proofs.Laws.{puts-then}
 use borrow.Author.Needs.{needs}
 use Rattle.emit.proofs.constant.int.Statement.{statement}
@@ -16,7 +14,7 @@ same-length : tie.Need-same-length
 same-length c = search needs
 
 returns : tie.Need-returns
-returns c = puts-then (c .before .before .before .before .before .before .byte .ensures) (rw (toZ-ofZ w64 (c .before .before .before .before .before .before .before .before .before .args .n) (c .before .before .before .before .before .before .before .before .before .fits .n)) at (c .before .before .signed .ensures))
+returns c = puts-then (c .before .before .before .before .before .before .byte .ensures) (c .before .before .signed .ensures)
 
 pub int-spec : {M : Type 1} → statement M
 int-spec = tie.close (tie.spec byte-requires signed-requires same-length returns)

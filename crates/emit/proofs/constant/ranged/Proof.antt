@@ -1,6 +1,4 @@
 -- One field behind another.
-use mir.Syntax.{w64}
-use mir.ValLaws.{toZ-ofZ}
 use Rattle.emit.proofs.Laws.{puts-then}
 use borrow.Author.Needs.{needs}
 use Rattle.emit.proofs.constant.ranged.Statement.{statement}
@@ -19,7 +17,7 @@ same-length : tie.Need-same-length
 same-length c = search needs
 
 returns : tie.Need-returns
-returns c = puts-then (c .before .before .before .before .before .before .before .before .before .before .byte .ensures) (puts-then (rw (toZ-ofZ w64 (c .before .before .before .before .before .before .before .before .before .before .before .before .before .args .from) (c .before .before .before .before .before .before .before .before .before .before .before .before .before .fits .from)) at (c .before .before .before .before .before .before .signed .ensures)) (rw (toZ-ofZ w64 (c .before .before .before .before .before .before .before .before .before .before .before .before .before .args .to) (c .before .before .before .before .before .before .before .before .before .before .before .before .before .fits .to)) at (c .before .before .signed2 .ensures)))
+returns c = puts-then (c .before .before .before .before .before .before .before .before .before .before .byte .ensures) (puts-then (c .before .before .before .before .before .before .signed .ensures) (c .before .before .signed2 .ensures))
 
 pub ranged-spec : {M : Type 1} → statement M
 ranged-spec =

@@ -4,9 +4,8 @@ use mathlib.Core.Logic.{⊎-elim}
 use mathlib.Core.Path.{ap}
 use native.Mathlib.Omega.{arith}
 use borrow.Author.Needs.{needs}
-use Rattle.rows.specs.Back.{word, keyedOf}
+use Rattle.rows.specs.Back.{keyedOf}
 use Rattle.emit.proofs.Growing.{turn-of}
-use Rattle.sizes.proofs.Tags.{keys-by}
 use Rattle.sizes.proofs.Grown.{Grown, grown-none, grown-more, grown-leaf, grown-items, grown-done}
 use Prim.Native.Nat.{ℕ, _<_}
 use borrow.Fn.Kinds.{In}
@@ -17,7 +16,8 @@ use Rattle.sizes.proofs.constant.+items.Lts-items as items-lts
 use Rattle.rows.proofs.row.of_eight.Reads as of-eight-reads
 use Rattle.sizes.proofs.base.plus.Reads as plus-reads
 use Rattle.sizes.proofs.constant.constant.Reads as constant-reads
-use Rattle.sizes.proofs.constant.items_of.Reads as items-of-reads
+use Rattle.emit.proofs.owning.items_of.Reads as items-of-reads
+use Rattle.emit.proofs.owning.has_keys.Reads as has-keys-reads
 use Rattle.sizes.proofs.constant.key.Reads as key-reads
 use Rattle.sizes.proofs.constant.+items.{statement}
 use Rattle.sizes.proofs.constant.+items.Tie.{close}
@@ -45,6 +45,8 @@ items-calls t = (
   constant-reads.Learnt,
   items-of-reads.Asked,
   items-of-reads.Learnt,
+  has-keys-reads.Asked,
+  has-keys-reads.Learnt,
   items-below t,
   items.Post,
 )
@@ -82,17 +84,14 @@ items-add-next t c = omega (arith, turn-of (c .before .before .before .before .b
 items-add-items : (t : ℕ) → items-lts.Need-add-items (items-calls t) (items-at t) items.Post items-Inv-loop items-μ-loop
 items-add-items t c = omega (arith, turn-of (c .before .before .before .before .before .before .before .before .before .before .args .deep) (c .before .before .before .before .before .before .loop .left) (c .before .before .before .before .before .before .loop .inv .stand) (c .before .before .before .before .before .loop-test .taken) .row)
 
-items-array-read-items : (t : ℕ) → items-lts.Need-array-read-items (items-calls t) (items-at t) items.Post items-Inv-loop items-μ-loop
-items-array-read-items t c = search needs
-
-items-cast-items : (t : ℕ) → items-lts.Need-cast-items (items-calls t) (items-at t) items.Post items-Inv-loop items-μ-loop
-items-cast-items t c = search needs
+items-has-keys-requires : (t : ℕ) → items-lts.Need-has-keys-requires (items-calls t) (items-at t) items.Post items-Inv-loop items-μ-loop
+items-has-keys-requires t c κs = search needs
 
 items-sub-items : (t : ℕ) → items-lts.Need-sub-items (items-calls t) (items-at t) items.Post items-Inv-loop items-μ-loop
-items-sub-items t c = omega (arith, turn-of (c .before .before .before .before .before .before .before .before .before .before .args .deep) (c .before .before .before .before .before .before .loop .left) (c .before .before .before .before .before .before .loop .inv .stand) (c .before .before .before .before .before .loop-test .taken) .deep)
+items-sub-items t c = omega (arith, turn-of (c .before .before .before .before .before .before .before .before .before .before .before .args .deep) (c .before .before .before .before .before .before .before .loop .left) (c .before .before .before .before .before .before .before .loop .inv .stand) (c .before .before .before .before .before .before .loop-test .taken) .deep)
 
 items-items-requires : (t : ℕ) → items-lts.Need-items-requires (items-calls t) (items-at t) items.Post items-Inv-loop items-μ-loop
-items-items-requires t c κs = (omega (arith, c .before .before .before .before .before .before .before .before .before .before .pre .0, turn-of (c .before .before .before .before .before .before .before .before .before .before .args .deep) (c .before .before .before .before .before .before .loop .left) (c .before .before .before .before .before .before .loop .inv .stand) (c .before .before .before .before .before .loop-test .taken) .deep), grown-items (c .before .before .before .before .before .before .before .before .before .before .args .deep) (c .before .before .before .before .before .before .loop .left) (keyedOf (c .before .before .before .before .of-eight .result)) (c .before .before .before .before .before .before .loop .inv .stand) (c .before .before .before .before .before .loop-test .taken) (ap keyedOf (c .before .before .before .before .of-eight .ensures)) (c .before .items-of .ensures))
+items-items-requires t c κs = (omega (arith, c .before .before .before .before .before .before .before .before .before .before .before .pre .0, turn-of (c .before .before .before .before .before .before .before .before .before .before .before .args .deep) (c .before .before .before .before .before .before .before .loop .left) (c .before .before .before .before .before .before .before .loop .inv .stand) (c .before .before .before .before .before .before .loop-test .taken) .deep), grown-items (c .before .before .before .before .before .before .before .before .before .before .before .args .deep) (c .before .before .before .before .before .before .before .loop .left) (keyedOf (c .before .before .before .before .before .of-eight .result)) (c .before .before .before .before .before .before .before .loop .inv .stand) (c .before .before .before .before .before .before .loop-test .taken) (ap keyedOf (c .before .before .before .before .before .of-eight .ensures)) (c .before .before .items-of .ensures))
 
 items-sub-left : (t : ℕ) → items-lts.Need-sub-left (items-calls t) (items-at t) items.Post items-Inv-loop items-μ-loop
 items-sub-left t c = omega arith
@@ -101,7 +100,7 @@ items-loop-less : (t : ℕ) → items-lts.Need-loop-less (items-calls t) (items-
 items-loop-less t c = omega arith
 
 items-loop-again : (t : ℕ) → items-lts.Need-loop-again (items-calls t) (items-at t) items.Post items-Inv-loop items-μ-loop
-items-loop-again t c = ⊎-elim (λ w. rw (w .1, w .2) (grown-leaf (c .before .before .before .before .before .before .before .before .before .before .args .deep) (c .before .before .before .before .before .before .loop .left) (keyedOf (c .before .before .before .before .of-eight .result)) (c .before .before .before .before .before .before .loop .inv) (c .before .before .before .before .before .loop-test .taken) (ap keyedOf (c .before .before .before .before .of-eight .ensures)) (c .before .items-of .ensures) (w .0 .taken) (c .before .before .before .key .ensures) (c .before .before .constant .ensures))) (λ w. rw (w .2, w .3) (grown-more (c .before .before .before .before .before .before .before .before .before .before .args .deep) (c .before .before .before .before .before .before .loop .left) (keyedOf (c .before .before .before .before .of-eight .result)) (c .before .before .before .before .before .before .loop .inv) (c .before .before .before .before .before .loop-test .taken) (ap keyedOf (c .before .before .before .before .of-eight .ensures)) (c .before .items-of .ensures) (keys-by (c .before .before .before .before .of-eight .result) (word (c .before .before .before .before .of-eight .result) 0)) (c .before .before .before .key .ensures) (c .before .before .constant .ensures) (w .1 .ensures))) (c .if1 .came)
+items-loop-again t c = let keyed = keyedOf (c .before .before .before .before .of-eight .result) in ⊎-elim (λ w. rw (w .1, w .2) (grown-leaf (c .before .before .before .before .before .before .before .before .before .before .args .deep) (c .before .before .before .before .before .before .loop .left) keyed (c .before .before .before .before .before .before .loop .inv) (c .before .before .before .before .before .loop-test .taken) (ap keyedOf (c .before .before .before .before .of-eight .ensures)) (c .before .items-of .ensures) (w .0 .taken) (c .before .before .before .key .ensures) (c .before .before .constant .ensures))) (λ w. rw (w .3, w .4) (grown-more (c .before .before .before .before .before .before .before .before .before .before .args .deep) (c .before .before .before .before .before .before .loop .left) keyed (c .before .before .before .before .before .before .loop .inv) (c .before .before .before .before .before .loop-test .taken) (ap keyedOf (c .before .before .before .before .of-eight .ensures)) (c .before .items-of .ensures) (w .1 .ensures) (c .before .before .before .key .ensures) (c .before .before .constant .ensures) (w .2 .ensures))) (c .if1 .came)
 
 items-returns : (t : ℕ) → items-lts.Need-returns (items-calls t) (items-at t) items.Post items-Inv-loop items-μ-loop
 items-returns t c = grown-done (c .before .before .before .before .before .args .deep) (c .before .loop .left) (c .before .loop .inv) (c .loop-test .left)
@@ -125,8 +124,7 @@ pub +items-spec : {M : Type 1} → statement M
     (items-items-of-requires t)
     (items-add-next t)
     (items-add-items t)
-    (items-array-read-items t)
-    (items-cast-items t)
+    (items-has-keys-requires t)
     (items-sub-items t)
     (items-items-requires t)
     (items-sub-left t)

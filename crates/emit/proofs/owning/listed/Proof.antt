@@ -1,7 +1,7 @@
 -- By the tag.
 use borrow.Author.Needs.{needs}
-use Rattle.sizes.proofs.constant.listed.Statement.{statement}
-use Rattle.sizes.proofs.constant.listed.Tie as tie
+use Rattle.emit.proofs.owning.listed.Statement.{statement}
+use Rattle.emit.proofs.owning.listed.Tie as tie
 
 pointer-requires : tie.Need-pointer-requires
 pointer-requires c κs = search needs

@@ -1,10 +1,10 @@
 -- Those that the row says, where its tag has any.
 use mathlib.Core.Bool.{true, false}
 use mathlib.Core.Path.{sym, _∙_}
-use Rattle.sizes.proofs.Tags.{items-told}
+use Rattle.emit.proofs.Tags.{items-told}
 use borrow.Author.Needs.{needs}
-use Rattle.sizes.proofs.constant.items_of.Statement.{statement}
-use Rattle.sizes.proofs.constant.items_of.Tie as tie
+use Rattle.emit.proofs.owning.items_of.Statement.{statement}
+use Rattle.emit.proofs.owning.items_of.Tie as tie
 
 array-read-listed : tie.Need-array-read-listed
 array-read-listed c = search needs
