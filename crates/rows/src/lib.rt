@@ -1,6 +1,5 @@
-// From the words of a row back to its record: what the tables of a read hold (specs/Back.antt, for any words), as definitions; the words
-// of a row, and a constant's record. The rows themselves are format's (specs/Rows.antt).
+// From the words of a row back to its record, for any words: definitions (specs/Back.antt), and the words of a row, read from a table.
+// The rows that a read stores are format's (specs/Rows.antt).
 
 pub mod constants;
 pub mod row;
-mod words;
