@@ -147,9 +147,16 @@ module _ (v m : ℕ) (few : m ≤ 64) (below : v / 2 < 2 ^ m) (above : 2 ^ m ≤
 pub lowest-set : (v : ℕ) → bitOr v 1 ≡ 2 * (v / 2) + 1
 lowest-set v = omega (arith, or-add-and v 1, and-mask v 1)
 
-pub zeros-groups : (v : ℕ) → v < 2 ^ 64 → (640 - 9 * leadingZeros 64 (bitOr v 1)) / 64 ≡ length (shortest v)
-zeros-groups v h =
-    let top = leading-top 64 (bitOr v 1) (omega (arith, lowest-set v)) (omega (arith, lowest-set v)) in
-    let below : v / 2 < 2 ^ top .0 = omega (arith, lowest-set v, top .3, pow-succ' 2 (top .0)) in
-    let above : 2 ^ top .0 ≤ 2 * (v / 2) + 1 = omega (arith, lowest-set v, top .2) in
-    omega (arith, top .1) ∙ sym (bits-groups v (top .0) (omega (arith, top .1)) below above)
+-- with its lowest bit set a number has a highest bit
+module _ (v : ℕ) (h : v < 2 ^ 64) where
+  highest : (j : ℕ) × (leadingZeros 64 (bitOr v 1) + suc j ≡ 64) × (2 ^ j ≤ bitOr v 1) × (bitOr v 1 < 2 ^ suc j)
+  highest = leading-top 64 (bitOr v 1) (omega (arith, lowest-set v)) (omega (arith, lowest-set v))
+
+  pub zeros-few : leadingZeros 64 (bitOr v 1) ≤ 63
+  zeros-few = omega (arith, highest .1)
+
+  pub top-groups : length (shortest v) ≡ (63 - leadingZeros 64 (bitOr v 1) + 7) / 7
+  top-groups =
+      let below : v / 2 < 2 ^ highest .0 = omega (arith, lowest-set v, highest .3, pow-succ' 2 (highest .0)) in
+      let above : 2 ^ highest .0 ≤ 2 * (v / 2) + 1 = omega (arith, lowest-set v, highest .2) in
+      bits-groups v (highest .0) (omega (arith, highest .1)) below above ∙ omega (arith, highest .1)

@@ -253,12 +253,13 @@ pub fn zigzag(z: i64) -> u64
 }
 
 // How many bytes the shortest form of a number takes: a group for each seven bits. With its lowest bit set no number is 0, and
-// none has more groups; of b bits, 64 at most, a seventh rounded up is (64 + 9 * b) / 64.
+// none has more groups; one whose highest bit stands at place p, 63 at most, has p + 1 bits, and a seventh of them rounded up
+// is (9 * p + 73) / 64.
 pub fn size(value: u64) -> usize
     ensures { λ r. ⌜ r ≡ length (definition.shortest value) ⌝ }
 {
-    let zeros = u64::leading_zeros(value | 1) as usize;
-    (640 - 9 * zeros) / 64
+    let top = 63 - u64::leading_zeros(value | 1) as usize;
+    (9 * top + 73) / 64
 }
 
 // The shortest form into the front of `out`; where it has no room nothing is touched.

@@ -1,26 +1,23 @@
--- The number of bits gives the groups.
-use Prim.Native.Nat.{ℕ, _≤_}
+-- The place of the highest bit gives the groups.
 use native.Mathlib.Omega.{arith}
-use lib.Bits.{bitOr}
-use lib.Count.{leadingZeros, leading-le}
-use Rattle.varint.proofs.Shortest.{zeros-groups}
+use Rattle.varint.proofs.Shortest.{zeros-few, top-groups}
 use Rattle.varint.proofs.size.Statement.{statement}
 use Rattle.varint.proofs.size.Tie as tie
 
-few : (v : ℕ) → leadingZeros 64 (bitOr v 1) ≤ 64
-few v = leading-le 64 (bitOr v 1)
+cast-top : tie.Need-cast-top
+cast-top c = omega (arith, zeros-few _ (c .fits .value .fits))
 
-cast-zeros : tie.Need-cast-zeros
-cast-zeros c = omega (arith, few (c .args .value))
+sub-top : tie.Need-sub-top
+sub-top c = omega (arith, zeros-few _ (c .fits .value .fits))
 
 mul-result : tie.Need-mul-result
-mul-result c = omega (arith, few (c .args .value))
+mul-result c = omega arith
 
-sub-result : tie.Need-sub-result
-sub-result c = omega (arith, few (c .args .value))
+add-result : tie.Need-add-result
+add-result c = omega arith
 
 returns : tie.Need-returns
-returns c = zeros-groups _ (c .fits .value .fits)
+returns c = omega (arith, top-groups _ (c .fits .value .fits))
 
 pub size-spec : {M : Type 1} → statement M
-size-spec = tie.close (tie.spec cast-zeros mul-result sub-result returns)
+size-spec = tie.close (tie.spec cast-top sub-top mul-result add-result returns)
