@@ -1,21 +1,34 @@
--- Short text: two blocks that reach its front and its end cover it, and text that is covered below 128 is UTF-8; a part that is cut where
+-- Short text: blocks that reach its front and its end cover it, and text that is covered below 128 is UTF-8; a part that is cut where
 -- the bytes end. Assumes nothing.
 use mathlib.Core.Path.{_≡_, sym, ap, _∙_}
 use mathlib.Core.Bool.{Bool, true}
 use mathlib.Core.List.{List}
-use Prim.Native.Nat.{ℕ, _+_, _-_, _≤_, _<_, _/_}
+use Prim.Native.Nat.{ℕ, _+_, _-_, _≤_, _<_, _/_, min}
 use native.Mathlib.Decide.{decLt}
 use native.Mathlib.Nat.{zero-add}
 use native.Mathlib.Omega.{arith}
-use lib.Bits.{bitOr}
+use lib.Bits.{bitOr, bitAnd, and-shr}
 use lib.ListN.{length, getD, take, drop, length-take, length-drop, drop-of-length-le}
 use lib.Seq.{getD-take, getD-drop, take-all, take-nil}
 use lib.Dec.{ltb}
 use borrow.Author.Tests.{ltb-true}
 use Rattle.utf8.specs.Check.{isUtf8}
-use Rattle.utf8.specs.Machine.{Covers, Passed, Sees}
+use Rattle.utf8.specs.Machine.{Covers, Screens, Passed, Sees}
 use Rattle.utf8.proofs.Laws.{nothing-is-text}
-use Rattle.utf8.proofs.Ascii.{or-left, or-right, block-passed, all-passed, covers-one}
+use Rattle.utf8.proofs.Ascii.{or-left, or-right, block-passed, all-passed}
+
+-- two bytes that have their highest bit have it in common
+high-bits : (b m : ℕ) → b < 256 → 128 ≤ m → m < 256 → bitAnd b m < 128 → b < 128
+high-bits b m fits high low less =
+    elim (decLt b 128) [
+      | yes l ↦ l
+      | no h ↦
+          let first : b / 128 ≡ 1 = omega arith in
+          let second : m / 128 ≡ 1 = omega arith in
+          let common : bitAnd b m / 128 ≡ bitAnd (b / 128) (m / 128) = and-shr b m 7 in
+          let one : bitAnd b m / 128 ≡ 1 = rw (first, second) at common in
+          absurd (omega (arith, one, less))
+    ]
 
 module _ (s : List ℕ) where
   -- the second block begins in the first, or right behind it
@@ -46,17 +59,35 @@ module _ (s : List ℕ) where
       covers : Covers (take size (drop start s)) 0 size r
       covers = record { each = λ k l. rw (zero-add k, getD-take size (drop start s) k 0 l, getD-drop start s k 0) (h .each k l) }
 
-  -- what two blocks say, tested
+  -- what blocks say, tested
   pub sees : (start size r : ℕ) → start + size ≤ length s → Covers s start size r → Sees (ltb r 128) s start size
   sees start size r inside h = record { text = λ e. sym (covered-text start size r inside h (ltb-true r 128 e)) }
 
-  -- one, two or three bytes: the first, the middle and the last
-  pub covers-three : (start size : ℕ) → 0 < size → size < 4 →
-      Covers s start size (bitOr (bitOr (getD s start 0) (getD s (start + size / 2) 0)) (getD s (start + size - 1) 0))
-  covers-three start size some few =
-      covers-both start (size / 2 + 1) (start + size - 1) 1 size _ _
-      (covers-both start 1 (start + size / 2) 1 (size / 2 + 1) _ _ (covers-one s start) (covers-one s (start + size / 2)) (omega arith) (omega arith) (omega arith))
-      (covers-one s (start + size - 1)) (omega arith) (omega arith) (omega arith)
+  pub screens : (start size r : ℕ) → start + size ≤ length s → Screens s start size r → Sees (ltb r 128) s start size
+  screens start size r inside h =
+      record {
+        text = λ e.
+            let each = h .each (ltb-true r 128 e) in
+            sym (covered-text start size 127 inside (record { each = λ k l. let below : getD s (start + k) 0 < 128 = each k l in omega arith }) (omega arith));
+      }
+
+  pub screens-none : (at n r : ℕ) → Screens s at (min 0 n) r
+  screens-none at n r = record { each = λ low k l. absurd (omega arith) }
+
+  -- the next byte counts where the text has not ended
+  pub screens-more : (at n k a m : ℕ) → (k < n → 128 ≤ m) → m < 256 → getD s (at + k) 0 < 256 → Screens s at (min k n) a →
+      Screens s at (min (k + 1) n) (bitOr a (bitAnd (getD s (at + k) 0) m))
+  screens-more at n k a m high low fits h =
+      let byte = getD s (at + k) 0 in
+      record {
+        each = λ less i l.
+            elim (decLt i (min k n)) [
+              | yes before ↦ h .each (omega (arith, or-left a (bitAnd byte m))) i before
+              | no here ↦
+                  let place : i ≡ k = omega arith in
+                  rw place (high-bits byte m fits (high (omega arith)) low (omega (arith, or-right a (bitAnd byte m))))
+            ];
+      }
 
   -- a run that starts past the end is empty, and one that ends past it ends there
   pub none-there : (start size : ℕ) → length s ≤ start → true ≡ isUtf8 (take size (drop start s))

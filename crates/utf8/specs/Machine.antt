@@ -48,6 +48,10 @@ pub record Walked (s : List ℕ) (m from n at : ℕ) : Type 0 where
 pub record Covers (s : List ℕ) (at n r : ℕ) : Type 0 where
   pub each : (k : ℕ) → k < n → getD s (at + k) 0 ≤ r
 
+-- where r is below 128, so is each of the n bytes at a place
+pub record Screens (s : List ℕ) (at n r : ℕ) : Type 0 where
+  pub each : r < 128 → (k : ℕ) → k < n → getD s (at + k) 0 < 128
+
 -- what lies between two places has no say: the text behind the one is UTF-8 exactly where the text behind the other is
 pub record Passed (s : List ℕ) (from at : ℕ) : Type 0 where
   pub up : from ≤ at

@@ -7,7 +7,7 @@ ghost use mathlib.Core.Path.{_≡_};
 ghost use Prim.Native.Nat.{_+_, _≤_, min};
 ghost use lib.ListN.{length, take, drop};
 ghost use Rattle.utf8.specs.Check.{next, isUtf8};
-ghost use Rattle.utf8.specs.Machine.{stateOf, Numbered, Means, Tables, Walked, Passed, Covers, Sees};
+ghost use Rattle.utf8.specs.Machine.{stateOf, Numbered, Means, Tables, Walked, Passed, Covers, Screens, Sees};
 
 // The states: refused, and for each row of the RFC's table what it owes behind its first byte. The row of
 // ASCII owes nothing, and that is the state between characters.
@@ -108,22 +108,6 @@ fn walk(
         at += 1;
     }
     state
-}
-
-// Four bytes or-ed together: below 128 only where each of them is ASCII.
-fn four(bytes: &[u8], at: usize) -> u8
-    requires { ⌜ at + 4 ≤ length (now bytes) ⌝ }
-    ensures { λ r. ⌜ Covers (now (bytes .entry)) at 4 r ⌝ }
-{
-    let front = bytes[at] | bytes[at + 1];
-    front | bytes[at + 2] | bytes[at + 3]
-}
-
-fn eight(bytes: &[u8], at: usize) -> u8
-    requires { ⌜ at + 8 ≤ length (now bytes) ⌝ }
-    ensures { λ r. ⌜ Covers (now (bytes .entry)) at 8 r ⌝ }
-{
-    four(bytes, at) | four(bytes, at + 4)
 }
 
 fn sixteen(bytes: &[u8], at: usize) -> u8
@@ -242,24 +226,32 @@ pub fn is_utf8(bytes: &[u8]) -> bool
     }
 }
 
-// Short text is seen to be ASCII by a block at its front and one up to its end, which may overlap: no loop depends on how
-// short it is. Otherwise the answer is no.
+// The first n bytes of a block or-ed together, in their highest bits: below 128 only where each of them is ASCII. What a byte is and-ed
+// with has that bit before the n-th only, so no branch asks where the text ends.
+fn front(bytes: &[u8], at: usize, n: usize) -> u8
+    requires { ⌜ at + 16 ≤ length (now bytes) ⌝ }
+    requires { ⌜ n ≤ 16 ⌝ }
+    ensures { λ r. ⌜ Screens (now (bytes .entry)) at n r ⌝ }
+{
+    let mut all: u8 = 0;
+    for i in 0..16 {
+        all |= bytes[at + i] & (127 + n - i) as u8;
+    }
+    all
+}
+
+// Short text is seen to be ASCII by the block that it begins, of which its bytes count, or by one at its front and one up to its end,
+// which may overlap: no loop depends on how short it is. Otherwise the answer is no.
 fn is_short_ascii(s: &[u8], start: usize, size: usize) -> bool
     requires { ⌜ start + size ≤ length (now s) ⌝ }
     ensures { λ r. ⌜ Sees r (now (s .entry)) start size ⌝ }
 {
     let end = start + size;
-    if size == 0 {
-        return true;
-    }
-    if size < 4 {
-        return s[start] | s[start + size / 2] | s[end - 1] < 128;
-    }
-    if size < 8 {
-        return four(s, start) | four(s, end - 4) < 128;
-    }
     if size < 16 {
-        return eight(s, start) | eight(s, end - 8) < 128;
+        if s.len() - start < 16 {
+            return false;
+        }
+        return front(s, start, size) < 128;
     }
     if size < 32 {
         return sixteen(s, start) | sixteen(s, end - 16) < 128;
