@@ -2,3 +2,4 @@
 pub mod Kept
 pub mod Rows
 pub mod First
+pub mod Once

@@ -9,8 +9,8 @@ use lib.Dec.{leb}
 use Rattle.tables.proofs.Fitting.{rows-fit}
 use Rattle.model.specs.Lent.{Lent}
 use Rattle.model.specs.Rules.{fits, countsFit, lies, outsideLies}
+use Rattle.rules.proofs.Both.{both}
 use Rattle.judging.specs.Standing.{RowsStand, FiveHold}
-use Rattle.judging.proofs.Kept.{both}
 
 stand : (used width size : ℕ) → leb used (size / width) ≡ true → used * width ≤ size
 stand used width size h = rows-fit width used size (leb-true _ _ h)
@@ -51,9 +51,15 @@ rows-stand m e =
     }
 
 -- the position table lies in the text
+pub positions-lie : (m : Lent) →
+    outsideLies (m .text) (m .outside .source) (m .outside .blob) (m .outside .code) (m .outside .positions) ≡ true →
+    m .outside .positions .start + m .outside .positions .size ≤ length (m .text)
+positions-lie m e =
+    let o = m .outside in
+    let behind = both (lies (m .text) (o .source) && lies (m .text) (o .blob)) _ e in
+    leb-true _ _ (both (lies (m .text) (o .code)) _ (behind .second) .second)
+
 pub table-lies : {mask : ℕ} {m : Lent} → FiveHold mask m → m .outside .positions .start + m .outside .positions .size ≤ length (m .text)
 table-lies {mask} {m} five =
     let o = m .outside in
-    let outside = both (outsideLies (m .text) (o .source) (o .blob) (o .code) (o .positions)) _ (five .two) in
-    let behind = both (lies (m .text) (o .source) && lies (m .text) (o .blob)) _ (outside .first) in
-    leb-true _ _ (both (lies (m .text) (o .code)) _ (behind .second) .second)
+    positions-lie m (both (outsideLies (m .text) (o .source) (o .blob) (o .code) (o .positions)) _ (five .two) .first)

@@ -1,7 +1,7 @@
 // The lowest rule of well-formed tables that is broken, of the ten that do not ask for the length: document 01, "Well-formed tables,
 // and writing". Each test stands on those before it: rows that are not there are not looked at.
 ghost use mathlib.Core.Path.{_≡_};
-ghost use mathlib.Core.Bool.{_&&_};
+ghost use mathlib.Core.Bool.{true, _&&_};
 ghost use Prim.Native.Nat.{_*_, _≤_};
 ghost use lib.ListN.{length, take};
 ghost use lib.Dec.{eqb};
@@ -61,6 +61,27 @@ pub fn broken(
     if !counts::counts_fit(outside.used, words) {
         return 1;
     }
+    if none_broken(
+        outside,
+        fit,
+        mask,
+        names,
+        constants,
+        tokens,
+        assigns,
+        chains,
+        steps,
+        switches,
+        cases,
+        ranges,
+        customs,
+        inputs,
+        functions,
+        parameters,
+        text,
+    ) {
+        return 0;
+    }
     broken_rows(
         outside,
         fit,
@@ -80,6 +101,82 @@ pub fn broken(
         parameters,
         text,
     )
+}
+
+// Where the rows are there: whether none is broken, each table looked at once. If it says no, the rules are judged one by one.
+fn none_broken(
+    outside: Artifact,
+    fit: bool,
+    mask: u8,
+    names: &[u64],
+    constants: &[u64],
+    tokens: &[u64],
+    assigns: &[u64],
+    chains: &[u64],
+    steps: &[u64],
+    switches: &[u64],
+    cases: &[u64],
+    ranges: &[u64],
+    customs: &[u64],
+    inputs: &[u64],
+    functions: &[u64],
+    parameters: &[u64],
+    text: &[u8],
+) -> bool
+    requires { ⌜ RowsStand (lent outside fit (now names) (now constants) (now tokens) (now assigns) (now chains) (now steps) (now switches) (now cases) (now ranges) (now customs) (now inputs) (now functions) (now parameters) (now text)) ⌝ }
+    ensures { λ r. ⌜ (r ≡ true → brokenOfTen mask (lent outside fit (now (names .entry)) (now (constants .entry)) (now (tokens .entry)) (now (assigns .entry)) (now (chains .entry)) (now (steps .entry)) (now (switches .entry)) (now (cases .entry)) (now (ranges .entry)) (now (customs .entry)) (now (inputs .entry)) (now (functions .entry)) (now (parameters .entry)) (now (text .entry))) ≡ 0) ⌝ }
+{
+    let u = outside.used;
+    if !whole::shares_fit(
+        u,
+        outside.tops,
+        constants,
+        chains,
+        switches,
+        customs,
+        functions,
+    ) {
+        return false;
+    }
+    if !trees::shallow(constants, u.constants, outside.tops) {
+        return false;
+    }
+    if !around_holds(outside, fit, names, text) {
+        return false;
+    }
+    if !whole::front_holds(u, names, constants, tokens, assigns, text) {
+        return false;
+    }
+    if !whole::back_holds(
+        mask,
+        outside.tops,
+        u,
+        chains,
+        steps,
+        switches,
+        cases,
+        ranges,
+    ) {
+        return false;
+    }
+    if !whole::callables_hold(u, customs, inputs, functions, parameters) {
+        return false;
+    }
+    positions::sound_table(text, outside.positions)
+}
+
+// What stands outside the tables, and the names.
+fn around_holds(outside: Artifact, fit: bool, names: &[u64], text: &[u8]) -> bool
+    requires { ⌜ outside .used .names ≤ length (now names) ⌝ }
+    ensures { λ r. ⌜ r ≡ ((fit && definition.outsideLies (now (text .entry)) (outside .source) (outside .blob) (outside .code) (outside .positions)) && (definition.isText (now (text .entry)) (outside .source) && ((rising 0 (take (outside .used .names) (now (names .entry))) && eqb (lastEnd 0 (take (outside .used .names) (now (names .entry)))) (outside .blob .size)) && definition.isText (now (text .entry)) (outside .blob)))) ⌝ }
+{
+    let source = outside.source;
+    let lie = texts::outside_lies(text, source, outside.blob, outside.code, outside.positions);
+    let strings = both(
+        utf8::is_utf8_at(text, source.start, source.size),
+        names_hold(outside, names, text),
+    );
+    both(both(fit, lie), strings)
 }
 
 // Where the rows are there.

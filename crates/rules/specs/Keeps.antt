@@ -1,4 +1,4 @@
--- What a row of each table is asked by the rule that is told: a line for each rule that looks at the table.
+-- What a row of each table is asked by the rule that is told: a line for each rule that looks at the table. 0 stands for all of them.
 use Prim.Native.Nat.{ℕ, _/_}
 use mathlib.Core.Bool.{Bool, not, _&&_, _||_}
 use mathlib.Core.List.{List}
@@ -9,11 +9,13 @@ use Rattle.grammar.specs.Combinators.{if_then_else_}
 use Rattle.format.specs.declared.answer.Used.{Used}
 use Rattle.format.specs.File.{scalar}
 use Rattle.rows.specs.Back.{word}
-use Rattle.model.specs.Rules.{tag, lies, isText, spanAt, named, texted, knownConstant, knownChain, knownStep, knownFunction, soundAssign, soundChain, soundStep, soundCase, soundFunction}
+use Rattle.model.specs.Rules.{tag, lies, isText, spanAt, named, texted, bits, soundPosition, knownConstant, knownChain, knownStep, knownFunction, soundAssign, soundChain, soundStep, soundCase, soundFunction}
 
 -- a text: that it lies there (2), that it is UTF-8 (3)
 abbrev pub keepsSpan : ℕ → List ℕ → Span → Bool
-keepsSpan rule text span = if eqb rule 2 then lies text span else isText text span
+keepsSpan rule text span =
+    if eqb rule 0 then lies text span && isText text span
+    else (if eqb rule 2 then lies text span else isText text span)
 
 -- which constants have a text that the rule asks about
 abbrev pub asked : ℕ → ℕ → Bool
@@ -27,7 +29,9 @@ keepsChar row = not (eqb (tag row) 0x05) || scalar (word row 1)
 
 -- 2, 3, 5 and 7
 abbrev pub keepsConstant : ℕ → List ℕ → List ℕ → Bool
-keepsConstant rule text row = if eqb rule 5 then knownConstant row else (if eqb rule 7 then keepsChar row else keepsText rule text row)
+keepsConstant rule text row =
+    if eqb rule 0 then (keepsText 2 text row && keepsText 3 text row) && (knownConstant row && keepsChar row)
+    else (if eqb rule 5 then knownConstant row else (if eqb rule 7 then keepsChar row else keepsText rule text row))
 
 -- a map's entry: 2 and 3
 abbrev pub keepsKey : ℕ → List ℕ → List ℕ → Bool
@@ -40,21 +44,34 @@ keepsToken rule text row = keepsSpan rule text (spanAt 0 row)
 -- 2, 3 and 9
 abbrev pub keepsAssign : ℕ → List ℕ → List ℕ → Bool
 keepsAssign rule text row =
-    if eqb rule 9 then soundAssign row else keepsSpan rule text (spanAt 0 row) && keepsSpan rule text (spanAt 3 row)
+    if eqb rule 0 then soundAssign row && (keepsSpan 0 text (spanAt 0 row) && keepsSpan 0 text (spanAt 3 row))
+    else (if eqb rule 9 then soundAssign row else keepsSpan rule text (spanAt 0 row) && keepsSpan rule text (spanAt 3 row))
 
 -- 5 and 9
 abbrev pub keepsChain : ℕ → List ℕ → Bool
-keepsChain rule row = if eqb rule 5 then knownChain row else soundChain row
+keepsChain rule row = if eqb rule 0 then knownChain row && soundChain row else (if eqb rule 5 then knownChain row else soundChain row)
 
 abbrev pub keepsStep : ℕ → ℕ → List ℕ → Bool
-keepsStep rule mask row = if eqb rule 5 then knownStep mask row else soundStep row
+keepsStep rule mask row =
+    if eqb rule 0 then knownStep mask row && soundStep row else (if eqb rule 5 then knownStep mask row else soundStep row)
 
 abbrev pub keepsFunction : ℕ → List ℕ → Bool
-keepsFunction rule row = if eqb rule 5 then knownFunction row else soundFunction row
+keepsFunction rule row =
+    if eqb rule 0 then knownFunction row && soundFunction row else (if eqb rule 5 then knownFunction row else soundFunction row)
 
 -- 8 and 9
 abbrev pub keepsCase : ℕ → ℕ → List ℕ → Bool
-keepsCase rule tops row = if eqb rule 8 then ltb (word row 1) tops else soundCase row
+keepsCase rule tops row =
+    if eqb rule 0 then ltb (word row 1) tops && soundCase row else (if eqb rule 8 then ltb (word row 1) tops else soundCase row)
+
+-- all words that roots use, and that steps use beside their position, whatever the tag (9)
+abbrev pub rootFits : List ℕ → Bool
+rootFits row = (bits 16 (word row 1) && bits 32 (word row 2)) && soundPosition (word row 3) (word row 4)
+
+abbrev pub stepFits : List ℕ → Bool
+stepFits row =
+    (bits 16 (word row 2) && soundPosition (word row 9) (word row 10))
+    && ((bits 32 (word row 3) && (bits 32 (word row 4) && bits 32 (word row 5))) && bits 8 (word row 6))
 
 -- rule 1, its first half, of how many words each table has
 abbrev pub switchCounts : Used → List ℕ → Bool

@@ -2,6 +2,7 @@
 ghost use mathlib.Core.Path.{_≡_};
 ghost use Rattle.model.specs.Rules as definition;
 ghost use Rattle.rules.specs.Keeps as keeps;
+use crate::words::ALL;
 use crate::words::among;
 use crate::words::both;
 use crate::words::either;
@@ -24,8 +25,18 @@ pub fn known_chain(row: [u64; 9]) -> bool
     both(among(4, row[0]), among(3, row[7]))
 }
 
+// Slot, name and position.
+fn root_fits(row: [u64; 9]) -> bool
+    ensures { λ r. ⌜ r ≡ keeps.rootFits row ⌝ }
+{
+    both(
+        both(fits_16(row[1]), fits_32(row[2])),
+        sound_position(row[3], row[4]),
+    )
+}
+
 // What a root's tag uses.
-fn sound_root(row: [u64; 9]) -> bool
+fn root_by_tag(row: [u64; 9]) -> bool
     ensures { λ r. ⌜ r ≡ definition.soundRoot row ⌝ }
 {
     if row[0] == 1 {
@@ -36,6 +47,17 @@ fn sound_root(row: [u64; 9]) -> bool
         sound_position(row[3], row[4])
     } else {
         true
+    }
+}
+
+// Words that a tag does not use are mostly 0: where all of them fit, no branch waits for the tag.
+fn sound_root(row: [u64; 9]) -> bool
+    ensures { λ r. ⌜ r ≡ definition.soundRoot row ⌝ }
+{
+    if root_fits(row) {
+        true
+    } else {
+        root_by_tag(row)
     }
 }
 
@@ -54,13 +76,19 @@ pub fn known_step(mask: u8, row: [u64; 11]) -> bool
     both(among(3, row[0]), row[1] & mask as u64 == row[1])
 }
 
-pub fn sound_step(row: [u64; 11]) -> bool
-    ensures { λ r. ⌜ r ≡ definition.soundStep row ⌝ }
+// Operand, bracket position, three names and argument count.
+fn step_fits(row: [u64; 11]) -> bool
+    ensures { λ r. ⌜ r ≡ keeps.stepFits row ⌝ }
 {
-    both(sound_position(row[7], row[8]), sound_by_tag(row))
+    let names = both(fits_32(row[3]), both(fits_32(row[4]), fits_32(row[5])));
+    both(
+        both(fits_16(row[2]), sound_position(row[9], row[10])),
+        both(names, fits_8(row[6])),
+    )
 }
 
-fn sound_by_tag(row: [u64; 11]) -> bool
+// What a step's tag uses.
+fn step_by_tag(row: [u64; 11]) -> bool
     ensures { λ r. ⌜ r ≡ definition.soundByTag row ⌝ }
 {
     if row[0] == 1 {
@@ -70,6 +98,23 @@ fn sound_by_tag(row: [u64; 11]) -> bool
     } else {
         both(fits_32(row[3]), both(fits_8(row[6]), fits_16(row[2])))
     }
+}
+
+// As for roots.
+fn sound_by_tag(row: [u64; 11]) -> bool
+    ensures { λ r. ⌜ r ≡ definition.soundByTag row ⌝ }
+{
+    if step_fits(row) {
+        true
+    } else {
+        step_by_tag(row)
+    }
+}
+
+pub fn sound_step(row: [u64; 11]) -> bool
+    ensures { λ r. ⌜ r ≡ definition.soundStep row ⌝ }
+{
+    both(sound_position(row[7], row[8]), sound_by_tag(row))
 }
 
 pub fn sound_switch(row: [u64; 3]) -> bool
@@ -124,7 +169,9 @@ pub fn sound_word(row: [u64; 1]) -> bool
 pub fn chain_keeps(rule: u8, row: [u64; 9]) -> bool
     ensures { λ r. ⌜ r ≡ keeps.keepsChain rule row ⌝ }
 {
-    if rule == 5 {
+    if rule == ALL {
+        both(known_chain(row), sound_chain(row))
+    } else if rule == 5 {
         known_chain(row)
     } else {
         sound_chain(row)
@@ -134,7 +181,9 @@ pub fn chain_keeps(rule: u8, row: [u64; 9]) -> bool
 pub fn step_keeps(rule: u8, mask: u8, row: [u64; 11]) -> bool
     ensures { λ r. ⌜ r ≡ keeps.keepsStep rule mask row ⌝ }
 {
-    if rule == 5 {
+    if rule == ALL {
+        both(known_step(mask, row), sound_step(row))
+    } else if rule == 5 {
         known_step(mask, row)
     } else {
         sound_step(row)
@@ -144,7 +193,9 @@ pub fn step_keeps(rule: u8, mask: u8, row: [u64; 11]) -> bool
 pub fn function_keeps(rule: u8, row: [u64; 7]) -> bool
     ensures { λ r. ⌜ r ≡ keeps.keepsFunction rule row ⌝ }
 {
-    if rule == 5 {
+    if rule == ALL {
+        both(row[1] <= 1, sound_function(row))
+    } else if rule == 5 {
         row[1] <= 1
     } else {
         sound_function(row)
@@ -154,7 +205,9 @@ pub fn function_keeps(rule: u8, row: [u64; 7]) -> bool
 pub fn case_keeps(rule: u8, tops: usize, row: [u64; 2]) -> bool
     ensures { λ r. ⌜ r ≡ keeps.keepsCase rule tops row ⌝ }
 {
-    if rule == 8 {
+    if rule == ALL {
+        both(row[1] < tops as u64, sound_case(row))
+    } else if rule == 8 {
         row[1] < tops as u64
     } else {
         sound_case(row)

@@ -4,6 +4,7 @@ ghost use Rattle.rules.specs.Keeps as keeps;
 ghost use Rattle.model.specs.Rules as definition;
 ghost use Rattle.format.specs.File as file;
 use crate::records::sound_assign;
+use crate::words::ALL;
 use crate::words::both;
 use crate::words::either;
 use grammar::Span;
@@ -37,7 +38,12 @@ pub fn outside_lies(text: &[u8], source: Span, blob: Span, code: Span, positions
 pub fn span_keeps(rule: u8, text: &[u8], start: u64, size: u64) -> bool
     ensures { λ r. ⌜ r ≡ keeps.keepsSpan rule (now (text .entry)) (record { start = start; size = size }) ⌝ }
 {
-    if rule == 2 {
+    if rule == ALL {
+        both(
+            lies(text, start, size),
+            utf8::is_utf8_at(text, start as usize, size as usize),
+        )
+    } else if rule == 2 {
         lies(text, start, size)
     } else {
         utf8::is_utf8_at(text, start as usize, size as usize)
@@ -59,7 +65,15 @@ pub fn key_keeps(rule: u8, row: [u64; 8], text: &[u8]) -> bool
 pub fn assign_keeps(rule: u8, row: [u64; 6], text: &[u8]) -> bool
     ensures { λ r. ⌜ r ≡ keeps.keepsAssign rule (now (text .entry)) row ⌝ }
 {
-    if rule == 9 {
+    if rule == ALL {
+        both(
+            sound_assign(row),
+            both(
+                span_keeps(ALL, text, row[0], row[1]),
+                span_keeps(ALL, text, row[3], row[4]),
+            ),
+        )
+    } else if rule == 9 {
         sound_assign(row)
     } else {
         both(
@@ -120,7 +134,12 @@ fn char_keeps(row: [u64; 8]) -> bool
 pub fn constant_keeps(rule: u8, row: [u64; 8], text: &[u8]) -> bool
     ensures { λ r. ⌜ r ≡ keeps.keepsConstant rule (now (text .entry)) row ⌝ }
 {
-    if rule == 5 {
+    if rule == ALL {
+        both(
+            both(text_keeps(2, row, text), text_keeps(3, row, text)),
+            both(known_constant(row), char_keeps(row)),
+        )
+    } else if rule == 5 {
         known_constant(row)
     } else if rule == 7 {
         char_keeps(row)

@@ -3,6 +3,9 @@ ghost use mathlib.Core.Path.{_≡_};
 ghost use mathlib.Core.Bool.{_&&_, _||_};
 ghost use Rattle.model.specs.Rules as definition;
 
+// In the place of a rule's number: all the rules that look at a table, so that it is looked at once.
+pub const ALL: u8 = 0;
+
 // Both are judged before: what a test costs is less than a branch that cannot be foreseen.
 pub fn both(a: bool, b: bool) -> bool
     ensures { λ r. ⌜ r ≡ a && b ⌝ }

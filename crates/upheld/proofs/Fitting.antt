@@ -19,7 +19,7 @@ use Rattle.rows.specs.Back as B
 use Rattle.rows.specs.Fits.{FitsBits, FitsName, FitsPosition, FitsChunk, FitsRoot, FitsTail, FitsChain, FitsStep, FitsSwitch, FitsRange, FitsSite, FitsLiteral, FitsInput, FitsThis, FitsFunction}
 use Rattle.written.specs.WellFormed.{flagsOf, WellStep, WellCase}
 use Rattle.model.specs.Rules.{soundChunk, yesNo, soundInput}
-use Rattle.judging.proofs.Kept.{both}
+use Rattle.rules.proofs.Both.{both}
 use Rattle.upheld.proofs.Tests.{implied}
 use Rattle.upheld.proofs.Rows.{Words}
 

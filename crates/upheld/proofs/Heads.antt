@@ -21,7 +21,7 @@ use Rattle.written.specs.WellFormed.{Counted, WellString, WellKind}
 use Rattle.model.specs.Lent.{clip}
 use Rattle.model.specs.Rules.{tag, owns, named, spanAt, isText, knownConstant}
 use Rattle.emit.specs.Constants.{keysOf}
-use Rattle.judging.proofs.Kept.{both}
+use Rattle.rules.proofs.Both.{both}
 use Rattle.upheld.proofs.Rows.{Words, clip-few, clip-string}
 use Rattle.upheld.proofs.Fitting.{signed-of}
 

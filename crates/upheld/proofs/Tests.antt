@@ -6,7 +6,7 @@ use mathlib.Core.List.{List, [], _∷_, map}
 use lib.ListN.{take, drop}
 use Rattle.grammar.specs.Combinators.{Each}
 use Rattle.model.specs.Lent.{every}
-use Rattle.judging.proofs.Kept.{false-true, both}
+use Rattle.rules.proofs.Both.{false-true, both}
 
 -- where the one holds, so does the other
 pub implied : (a b : Bool) → not a || b ≡ true → a ≡ true → b ≡ true

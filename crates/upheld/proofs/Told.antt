@@ -12,7 +12,8 @@ use Rattle.format.specs.File.{rising, lastEnd}
 use Rattle.rows.specs.Back.{cut}
 use Rattle.model.specs.Lent.{Lent, endRows, constantRows, tokenRows, assignRows, chainRows, stepRows, customRows, inputRows, every}
 use Rattle.model.specs.Rules as R
-use Rattle.judging.proofs.Kept.{both, Kept}
+use Rattle.rules.proofs.Both.{both}
+use Rattle.judging.proofs.Kept.{Kept}
 use Rattle.judging.proofs.Rows.{rows-stand}
 use Rattle.upheld.proofs.Tests.{holds}
 

@@ -26,7 +26,8 @@ use Rattle.emit.specs.Constants.{Enough}
 use Rattle.emit.proofs.Listing.{between-all}
 use Rattle.emit.proofs.Standing.{fit-stand}
 use Rattle.upheld.specs.Native.{Native, Room}
-use Rattle.judging.proofs.Kept.{false-true, both, kept}
+use Rattle.rules.proofs.Both.{false-true, both}
+use Rattle.judging.proofs.Kept.{kept}
 use Rattle.upheld.proofs.Tests.{holds, each-both, each-map, each-so, each-any}
 use Rattle.upheld.proofs.Rows.{Words, words-cut, length-cut, Held, held, ends-back, clip-few, clip-length, clip-string}
 use Rattle.upheld.proofs.Fitting.{bits-of, chain-of, well-step, switch-of, case-of, range-of, site-of, input-of, function-of, parameter-of}

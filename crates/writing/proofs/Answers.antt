@@ -14,7 +14,8 @@ use Rattle.model.specs.Lent.{Lent, lent, constantRows, chainRows, every}
 use Rattle.model.specs.Rules.{knownConstant, knownChain}
 use Rattle.model.specs.Tables.{meaningOf}
 use Rattle.model.specs.Written.{bytesOf, brokenOfTen, rule11, lowestBroken, elseEleven, Writes, answered, left}
-use Rattle.judging.proofs.Kept.{both, kept}
+use Rattle.rules.proofs.Both.{both}
+use Rattle.judging.proofs.Kept.{kept}
 use Rattle.emit.specs.Puts.{Puts}
 use Rattle.writing.specs.Ready.{Ready}
 

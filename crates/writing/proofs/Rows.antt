@@ -11,7 +11,7 @@ use Rattle.model.specs.Rules.{total, rule1, countsFit, sharesFit, exactly}
 use Rattle.emit.specs.Shares.{SharesFit}
 use Rattle.emit.specs.Constants.{ConstantsFit}
 use Rattle.judging.specs.Standing.{RowsStand}
-use Rattle.judging.proofs.Kept.{Both, both}
+use Rattle.rules.proofs.Both.{Both, both}
 use Rattle.judging.proofs.Rows.{rows-stand}
 use Rattle.writing.specs.Ready.{Ready}
 

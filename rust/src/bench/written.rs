@@ -24,7 +24,15 @@ const FILES: [(&str, Style, usize); 6] = [
     ("any widths", Any, 500_000),
 ];
 
-fn timed(what: &str, bytes: &[u8], strip: u8) {
+/// Whether there is room for what is written. Where there is none all rules are judged and all bytes counted, and none is stored: so this
+/// is what comes before the first byte, beside the original's whole write.
+#[derive(Clone, Copy, PartialEq)]
+enum Room {
+    Enough,
+    None,
+}
+
+fn timed(what: &str, bytes: &[u8], strip: u8, room: Room) {
     settings::know_flags(None);
     settings::walk_code(true);
     let program = Program::read(bytes).unwrap();
@@ -40,15 +48,21 @@ fn timed(what: &str, bytes: &[u8], strip: u8) {
         let written = |_| u64::from(if strip == 0 { black_box(program.write()).is_ok() } else { black_box(program.write_stripped()).is_ok() });
         (0..calls).map(written).sum()
     };
-    let ours = || (0..calls).map(|_| u64::from(write(black_box(lent), way, &mut out)[0] == 0)).sum();
+    if room == Room::None {
+        out.clear();
+    }
+    let ours = || (0..calls).map(|_| u64::from((write(black_box(lent), way, &mut out)[0] == 0) == (room == Room::Enough))).sum();
     row(&format!("{what}, {size} bytes, a byte"), calls * size, best(theirs, ours));
 }
 
 pub fn all() {
     for (strip, way) in WAYS {
         for (what, style, size) in FILES {
-            timed(&format!("{way} {what}"), &file(Of::All, style, size), strip);
+            timed(&format!("{way} {what}"), &file(Of::All, style, size), strip, Room::Enough);
         }
-        timed(&format!("{way} positions"), &with_positions(2_000), strip);
+        timed(&format!("{way} positions"), &with_positions(2_000), strip, Room::Enough);
+    }
+    for (what, style, size) in FILES {
+        timed(&format!("no room, {what}"), &file(Of::All, style, size), 0, Room::None);
     }
 }
