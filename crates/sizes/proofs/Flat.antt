@@ -21,10 +21,10 @@ pub record Flat {X : Type 0} (put : X → List ℕ) (w : ℕ) (of : List ℕ →
   pub near : place ≤ 1048577
   pub going : min (place + length (putAll put (between w of t j used))) 1048577 ≡ min (at + length (putAll put (recordsOf w of used t))) 1048577
 
-pub flat-none : {X : Type 0} {put : X → List ℕ} {w : ℕ} {of : List ℕ → X} {t : List ℕ} {at used place : ℕ} →
-    used * w ≤ length t → place ≡ min (at + 0) 1048577 → Flat put w of t at used 0 place
-flat-none {put = put} {w = w} {of = of} {t = t} {used = used} fits is =
-    record { inside = fits; few = omega arith; near = omega arith; going = rw (between-all w of t used) (omega arith) }
+pub flat-none : {X : Type 0} {put : X → List ℕ} {w : ℕ} {of : List ℕ → X} {t : List ℕ} {at used : ℕ} →
+    used * w ≤ length t → at ≤ 1048577 → Flat put w of t at used 0 at
+flat-none {w = w} {of = of} {t = t} {used = used} fits near =
+    record { inside = fits; few = omega arith; near = near; going = rw (between-all w of t used) }
 
 module _ {X : Type 0} {put : X → List ℕ} {w : ℕ} {of : List ℕ → X} {t : List ℕ} {at used j place : ℕ} (g : Flat put w of t at used j place) where
   -- the next row is there

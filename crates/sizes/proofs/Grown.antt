@@ -30,9 +30,9 @@ pub record Grown (text : List ℕ) (keys : Bool) (levels n : ℕ) (t : List ℕ)
   pub going : min (place + length (putAll (putItem text keys levels) (grow levels left (rowsFrom t used next) .trees))) 1048577
       ≡ min (at + length (putAll (putItem text keys levels) (grow levels n (rowsFrom t used from) .trees))) 1048577
 
-pub grown-none : {text : List ℕ} {keys : Bool} {levels n : ℕ} {t : List ℕ} {used from at place : ℕ} →
-    ItemsStand levels n t used from → place ≡ min (at + 0) 1048577 → Grown text keys levels n t used from at from n place
-grown-none stand is = record { stand = stand; rest = refl; near = omega arith; going = omega arith }
+pub grown-none : {text : List ℕ} {keys : Bool} {levels n : ℕ} {t : List ℕ} {used from at : ℕ} →
+    ItemsStand levels n t used from → at ≤ 1048577 → Grown text keys levels n t used from at from n at
+grown-none stand near = record { stand = stand; rest = refl; near = near; going = refl }
 
 pub grown-done : (levels left : ℕ) {text : List ℕ} {keys : Bool} {n : ℕ} {t : List ℕ} {used from at next place : ℕ} →
     Grown text keys levels n t used from at next left place → left ≤ 0 → CountsItems text keys levels n t used from at (record { place = place; next = next })

@@ -34,16 +34,15 @@ counts-same same p = record { next = omega (arith, p .next) }
 pub counts-then : {a b : List ℕ} {at mid next : ℕ} → Counts a at mid → Counts b mid next → Counts (a ++ b) at next
 counts-then {a} {b} p q = record { next = rw (length-append a b) (omega (arith, p .next, q .next)) }
 
--- nothing, and the place capped
-pub counts-none : {at next : ℕ} → next ≡ min (at + 0) 1048577 → Counts [] at next
-counts-none is = record { next = is }
+-- nothing
+pub counts-none : {at : ℕ} → at ≤ 1048577 → Counts [] at at
+counts-none near = record { next = omega arith }
 
--- a count of bytes and the bytes
-pub text-counts : (bytes : List ℕ) {n size at mid next : ℕ} → n ≡ length bytes → size ≡ length (shortest n) → mid ≡ min (at + size) 1048577 →
-    next ≡ min (mid + n) 1048577 → Counts (putBytes bytes) at next
-text-counts bytes {n} {size} {at} {mid} is long first second =
-    let count : Counts (shortest (length bytes)) at mid = record { next = rw (← is, ← long) first } in
-    counts-then count (record { next = rw (← is) second })
+-- a count of bytes and the bytes, which are capped by themselves
+pub text-counts : (bytes : List ℕ) {n size most at next : ℕ} → n ≡ length bytes → size ≡ length (shortest n) → most ≡ min n 1048577 →
+    next ≡ min (at + (size + most)) 1048577 → Counts (putBytes bytes) at next
+text-counts bytes is long capped end =
+    record { next = rw (length-append (shortest (length bytes)) bytes, ← is, ← long) (omega arith) }
 
 -- token, name, token, name: in whichever order they are counted
 pub assign-counts : (a b : List ℕ) (m n : ℕ) {at first second k l next : ℕ} → Counts (putBytes a) at first → Counts (putBytes b) first second →

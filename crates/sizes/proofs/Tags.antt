@@ -6,7 +6,6 @@ use mathlib.Core.List.{List, _++_}
 use native.Mathlib.Omega.{arith}
 use lib.Dec.{eqb}
 use lib.ListN.{length, length-append}
-use Rattle.grammar.specs.declared.Span.{Span}
 use Rattle.grammar.specs.Combinators.{if_then_else_}
 use Rattle.grammar.specs.Number.{shortest, zigzag}
 use Rattle.rows.specs.declared.constants.Kind.{Kind}
@@ -14,7 +13,7 @@ use Rattle.rows.specs.Back.{word, index, signed, textOf, kindOf, constantOf}
 use Rattle.rows.specs.Tree.{kind}
 use Rattle.written.specs.Put.{putBytes, putKind}
 use Rattle.model.specs.Lent.{clip}
-use Rattle.emit.specs.Constants.{headBytes, footBytes, keyBytes}
+use Rattle.emit.specs.Constants.{headBytes, footBytes}
 use Rattle.emit.specs.Tags.{isPointer, isList}
 use Rattle.emit.proofs.Tags.{tagged, by-tag, isnt, is-pointer, pointer-tag}
 use Rattle.sizes.specs.Counts.{Counts}
@@ -80,8 +79,3 @@ constant-counts row text {told} {words} {n} {size} {at} {next} w is p s e =
     rw is (sized-by row text (word row 0)) in
     let near : min (at + (words + size)) 1048577 ≡ min (at + (words + whereUsed told (length (putBytes (clip text (textOf row)))))) 1048577 = capped told words (length (putBytes (clip text (textOf row)))) at (p .next) s in
     record { next = e ∙ (near ∙ rw (w, all)) }
-
-pub key-counts : (keys : Bool) (text : List ℕ) (key : Span) {n size at next : ℕ} → Counts (putBytes (clip text key)) 0 n → size ≡ whereUsed keys n →
-    next ≡ min (at + size) 1048577 → Counts (keyBytes text keys key) at next
-key-counts true text key p s e = record { next = omega (arith, p .next) }
-key-counts false text key p s e = record { next = omega arith }

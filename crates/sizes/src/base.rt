@@ -27,12 +27,13 @@ pub fn least(n: usize, most: usize) -> usize
     if n < most { n } else { most }
 }
 
-// The place n bytes on; no sum wraps, whatever place and number.
+// The place n bytes on; neither place nor number is so high that the sum wraps.
 pub fn plus(at: usize, n: usize) -> usize
+    requires { ⌜ at ≤ 1048577 ⌝ }
+    requires { ⌜ n ≤ 2000000 ⌝ }
     ensures { λ r. ⌜ r ≡ min (at + n) 1048577 ⌝ }
 {
-    let place = least(at, PAST);
-    place + least(n, PAST - place)
+    least(at + n, PAST)
 }
 
 // The sizes of numbers and of rows have a bound beside them, so that no sum of them wraps.
@@ -51,10 +52,11 @@ fn clipped(s: &[u8], span: Span) -> usize
     least(span.size, s.len() - start)
 }
 
-// A count of bytes and the bytes.
+// A count of bytes and the bytes; past the limit no more of them need be counted.
 pub fn text(at: usize, s: &[u8], span: Span) -> usize
+    requires { ⌜ at ≤ 1048577 ⌝ }
     ensures { λ r. ⌜ Counts (putBytes (clip (now (s .entry)) span)) at r ⌝ }
 {
     let n = clipped(s, span);
-    plus(plus(at, number(n as u64)), n)
+    plus(at, number(n as u64) + least(n, PAST))
 }

@@ -19,6 +19,7 @@ use format::records::Chunk;
 use rows::row;
 
 pub fn chunk(at: usize, c: Chunk) -> usize
+    requires { ⌜ at ≤ 1048577 ⌝ }
     ensures { λ r. ⌜ Counts (definition.putChunk c) at r ⌝ }
 {
     plus(
@@ -36,10 +37,11 @@ fn input(row: [u64; 5]) -> usize
 }
 
 fn input_rows(at: usize, t: &[u64], used: usize) -> usize
+    requires { ⌜ at ≤ 1048577 ⌝ }
     requires { ⌜ used * 5 ≤ length (now t) ⌝ }
     ensures { λ r. ⌜ Counts (putAll definition.putInput (rows.recordsOf 5 rows.inputOf used (now (t .entry)))) at r ⌝ }
 {
-    let mut place = plus(at, 0);
+    let mut place = at;
     let mut j: usize = 0;
     while j < used {
         place = plus(place, input(row::of_five(t, j * 5)));
@@ -58,10 +60,11 @@ fn site(row: [u64; 3]) -> usize
 
 // Without their inputs.
 fn site_rows(at: usize, t: &[u64], used: usize) -> usize
+    requires { ⌜ at ≤ 1048577 ⌝ }
     requires { ⌜ used * 3 ≤ length (now t) ⌝ }
     ensures { λ r. ⌜ Counts (putAll ownSite (rows.recordsOf 3 rows.siteOf used (now (t .entry)))) at r ⌝ }
 {
-    let mut place = plus(at, 0);
+    let mut place = at;
     let mut j: usize = 0;
     while j < used {
         place = plus(place, site(row::of_three(t, j * 3)));
@@ -72,6 +75,7 @@ fn site_rows(at: usize, t: &[u64], used: usize) -> usize
 
 // The section. That the sites own all the inputs, and no more, was tested before.
 pub fn sites(at: usize, t: &[u64], used: usize, inputs: &[u64], owned: usize) -> usize
+    requires { ⌜ at ≤ 1048577 ⌝ }
     requires { ⌜ shares.SharesFit 2 3 used (now t) 5 (now inputs) ⌝ }
     requires { ⌜ owned ≡ shares.owned 2 3 used (now t) ⌝ }
     ensures { λ r. ⌜ Counts (definition.putList definition.putSite (shares.sitesOf (now (t .entry)) used (now (inputs .entry)))) at r ⌝ }
@@ -91,10 +95,11 @@ fn function(row: [u64; 7]) -> usize
 
 // Without their parameters.
 fn function_rows(at: usize, t: &[u64], used: usize) -> usize
+    requires { ⌜ at ≤ 1048577 ⌝ }
     requires { ⌜ used * 7 ≤ length (now t) ⌝ }
     ensures { λ r. ⌜ Counts (putAll ownFunction (rows.recordsOf 7 rows.functionOf used (now (t .entry)))) at r ⌝ }
 {
-    let mut place = plus(at, 0);
+    let mut place = at;
     let mut j: usize = 0;
     while j < used {
         place = plus(place, function(row::of_seven(t, j * 7)));
@@ -105,6 +110,7 @@ fn function_rows(at: usize, t: &[u64], used: usize) -> usize
 
 // The section. That the functions own all the parameters, and no more, was tested before.
 pub fn functions(at: usize, t: &[u64], used: usize, parameters: &[u64], owned: usize) -> usize
+    requires { ⌜ at ≤ 1048577 ⌝ }
     requires { ⌜ shares.SharesFit 3 7 used (now t) 1 (now parameters) ⌝ }
     requires { ⌜ owned ≡ shares.owned 3 7 used (now t) ⌝ }
     ensures { λ r. ⌜ Counts (definition.putList definition.putFunction (shares.functionsOf (now (t .entry)) used (now (parameters .entry)))) at r ⌝ }

@@ -58,10 +58,11 @@ fn step(strip: bool, row: [u64; 11]) -> usize
 }
 
 fn step_rows(at: usize, strip: bool, t: &[u64], used: usize) -> usize
+    requires { ⌜ at ≤ 1048577 ⌝ }
     requires { ⌜ used * 11 ≤ length (now t) ⌝ }
     ensures { λ r. ⌜ Counts (putAll (putStepIn strip) (recordsOf 11 stepOf used (now (t .entry)))) at r ⌝ }
 {
-    let mut place = plus(at, 0);
+    let mut place = at;
     let mut j: usize = 0;
     while j < used {
         place = plus(place, step(strip, row::of_eleven(t, j * 11)));
@@ -101,10 +102,11 @@ fn chain(strip: bool, row: [u64; 9]) -> usize
 
 // Without their steps.
 fn chain_rows(at: usize, strip: bool, t: &[u64], used: usize) -> usize
+    requires { ⌜ at ≤ 1048577 ⌝ }
     requires { ⌜ used * 9 ≤ length (now t) ⌝ }
     ensures { λ r. ⌜ Counts (putAll (ownChain strip) (recordsOf 9 chainOf used (now (t .entry)))) at r ⌝ }
 {
-    let mut place = plus(at, 0);
+    let mut place = at;
     let mut j: usize = 0;
     while j < used {
         place = plus(place, chain(strip, row::of_nine(t, j * 9)));
@@ -115,6 +117,7 @@ fn chain_rows(at: usize, strip: bool, t: &[u64], used: usize) -> usize
 
 // The section, in the way asked. That the chains own all the steps, and no more, was tested before.
 pub fn chains(at: usize, strip: bool, t: &[u64], used: usize, steps: &[u64], owned: usize) -> usize
+    requires { ⌜ at ≤ 1048577 ⌝ }
     requires { ⌜ shares.SharesFit 6 9 used (now t) 11 (now steps) ⌝ }
     requires { ⌜ owned ≡ shares.owned 6 9 used (now t) ⌝ }
     ensures { λ r. ⌜ Counts (definition.putList definition.putChain (chainsIn strip (shares.chainsOf (now (t .entry)) used (now (steps .entry))))) at r ⌝ }

@@ -91,6 +91,7 @@ fn words(row: [u64; 8]) -> usize
 
 // All but the items.
 fn constant(at: usize, s: &[u8], row: [u64; 8]) -> usize
+    requires { ⌜ at ≤ 1048577 ⌝ }
     ensures { λ r. ⌜ Counts (headBytes (now (s .entry)) (constantOf row) ++ footBytes (constantOf row)) at r ⌝ }
 {
     let span = Span {
@@ -101,14 +102,16 @@ fn constant(at: usize, s: &[u8], row: [u64; 8]) -> usize
     plus(at, words(row) + told)
 }
 
+// All the constants of a run have keys or none has, so that this branch is foreseen.
 fn key(at: usize, s: &[u8], keys: bool, row: [u64; 8]) -> usize
+    requires { ⌜ at ≤ 1048577 ⌝ }
     ensures { λ r. ⌜ Counts (keyBytes (now (s .entry)) keys (keyedOf row .key)) at r ⌝ }
 {
     let span = Span {
         start: row[6] as usize,
         size: row[7] as usize,
     };
-    plus(at, when(keys, text(0, s, span)))
+    if keys { text(at, s, span) } else { at }
 }
 
 // n constants from a row on, each with all that it owns, one level deeper; a map's have keys.
@@ -122,10 +125,11 @@ fn items(
     deep: usize,
     s: &[u8],
 ) -> Reached
+    requires { ⌜ at ≤ 1048577 ⌝ }
     requires { ⌜ ItemsStand deep n (now t) used from ⌝ }
     ensures { λ r. ⌜ CountsItems (now (s .entry)) keys deep n (now (t .entry)) used from at r ⌝ }
 {
-    let mut place = plus(at, 0);
+    let mut place = at;
     let mut next = from;
     let mut left = n;
     while 0 < left {
@@ -147,6 +151,7 @@ fn items(
 
 // The section: the top constants. The counts, the tags and the depth were tested before.
 pub fn constants(at: usize, t: &[u64], used: usize, tops: usize, s: &[u8]) -> usize
+    requires { ⌜ at ≤ 1048577 ⌝ }
     requires { ⌜ ConstantsFit (now t) used tops ⌝ }
     ensures { λ r. ⌜ Counts (definition.putList (definition.putConstant levels) (constantsOf (now (s .entry)) (now (t .entry)) used tops)) at r ⌝ }
 {

@@ -25,10 +25,11 @@ fn end(row: [u64; 1]) -> usize
 
 // The indices of a table of one word a row, without their count.
 pub fn indices(at: usize, t: &[u64], used: usize) -> usize
+    requires { ⌜ at ≤ 1048577 ⌝ }
     requires { ⌜ used * 1 ≤ length (now t) ⌝ }
     ensures { λ r. ⌜ Counts (putAll shortest (recordsOf 1 endOf used (now (t .entry)))) at r ⌝ }
 {
-    let mut place = plus(at, 0);
+    let mut place = at;
     let mut j: usize = 0;
     while j < used {
         place = plus(place, end(row::of_one(t, j * 1)));
@@ -38,6 +39,7 @@ pub fn indices(at: usize, t: &[u64], used: usize) -> usize
 }
 
 pub fn name_ends(at: usize, t: &[u64], used: usize) -> usize
+    requires { ⌜ at ≤ 1048577 ⌝ }
     requires { ⌜ used * 1 ≤ length (now t) ⌝ }
     ensures { λ r. ⌜ Counts (definition.putList shortest (recordsOf 1 endOf used (now (t .entry)))) at r ⌝ }
 {
@@ -46,6 +48,7 @@ pub fn name_ends(at: usize, t: &[u64], used: usize) -> usize
 
 // From the first of a row's words that are a span.
 fn token(at: usize, s: &[u8], words: [u64; 2]) -> usize
+    requires { ⌜ at ≤ 1048577 ⌝ }
     ensures { λ r. ⌜ Counts (definition.putBytes (clip (now (s .entry)) (spanOf words))) at r ⌝ }
 {
     text(
@@ -59,6 +62,7 @@ fn token(at: usize, s: &[u8], words: [u64; 2]) -> usize
 }
 
 pub fn tokens(at: usize, t: &[u64], used: usize, s: &[u8]) -> usize
+    requires { ⌜ at ≤ 1048577 ⌝ }
     requires { ⌜ used * 2 ≤ length (now t) ⌝ }
     ensures { λ r. ⌜ Counts (definition.putList definition.putBytes (recordsOf 2 (λ row. clip (now (s .entry)) (spanOf row)) used (now (t .entry)))) at r ⌝ }
 {
@@ -73,6 +77,7 @@ pub fn tokens(at: usize, t: &[u64], used: usize, s: &[u8]) -> usize
 
 // Token, name index, token, name index.
 fn assign(at: usize, s: &[u8], words: [u64; 6]) -> usize
+    requires { ⌜ at ≤ 1048577 ⌝ }
     ensures { λ r. ⌜ Counts (definition.putAssign (assignMeans (now (s .entry)) (assignOf words))) at r ⌝ }
 {
     let first = token(at, s, [words[0], words[1]]);
@@ -81,6 +86,7 @@ fn assign(at: usize, s: &[u8], words: [u64; 6]) -> usize
 }
 
 pub fn assigns(at: usize, t: &[u64], used: usize, s: &[u8]) -> usize
+    requires { ⌜ at ≤ 1048577 ⌝ }
     requires { ⌜ used * 6 ≤ length (now t) ⌝ }
     ensures { λ r. ⌜ Counts (definition.putList definition.putAssign (recordsOf 6 (λ row. assignMeans (now (s .entry)) (assignOf row)) used (now (t .entry)))) at r ⌝ }
 {

@@ -22,10 +22,11 @@ fn case(row: [u64; 2]) -> usize
 }
 
 fn case_rows(at: usize, t: &[u64], used: usize) -> usize
+    requires { ⌜ at ≤ 1048577 ⌝ }
     requires { ⌜ used * 2 ≤ length (now t) ⌝ }
     ensures { λ r. ⌜ Counts (putAll definition.putCase (recordsOf 2 caseOf used (now (t .entry)))) at r ⌝ }
 {
-    let mut place = plus(at, 0);
+    let mut place = at;
     let mut j: usize = 0;
     while j < used {
         place = plus(place, case(row::of_two(t, j * 2)));
@@ -42,10 +43,11 @@ fn range(row: [u64; 4]) -> usize
 }
 
 fn range_rows(at: usize, t: &[u64], used: usize) -> usize
+    requires { ⌜ at ≤ 1048577 ⌝ }
     requires { ⌜ used * 4 ≤ length (now t) ⌝ }
     ensures { λ r. ⌜ Counts (putAll definition.putRange (recordsOf 4 rangeOf used (now (t .entry)))) at r ⌝ }
 {
-    let mut place = plus(at, 0);
+    let mut place = at;
     let mut j: usize = 0;
     while j < used {
         place = plus(place, range(row::of_four(t, j * 4)));
@@ -63,10 +65,11 @@ fn switch(row: [u64; 3]) -> usize
 
 // Without their cases and ranges.
 fn switch_rows(at: usize, t: &[u64], used: usize) -> usize
+    requires { ⌜ at ≤ 1048577 ⌝ }
     requires { ⌜ used * 3 ≤ length (now t) ⌝ }
     ensures { λ r. ⌜ Counts (putAll ownSwitch (recordsOf 3 switchOf used (now (t .entry)))) at r ⌝ }
 {
-    let mut place = plus(at, 0);
+    let mut place = at;
     let mut j: usize = 0;
     while j < used {
         place = plus(place, switch(row::of_three(t, j * 3)));
@@ -85,6 +88,7 @@ pub fn switches(
     ranges: &[u64],
     ranged: usize,
 ) -> usize
+    requires { ⌜ at ≤ 1048577 ⌝ }
     requires { ⌜ shares.SharesFit 0 3 used (now t) 2 (now cases) ⌝ }
     requires { ⌜ shares.SharesFit 1 3 used (now t) 4 (now ranges) ⌝ }
     requires { ⌜ cased ≡ shares.owned 0 3 used (now t) ⌝ }

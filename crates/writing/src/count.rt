@@ -63,6 +63,7 @@ fn back(
     parameters: &[u64],
     text: &[u8],
 ) -> usize
+    requires { ⌜ at ≤ 1048577 ⌝ }
     requires { ⌜ SharesFit 6 9 (outside .used .chains) (now chains) 11 (now steps) ⌝ }
     requires { ⌜ SharesFit 0 3 (outside .used .switches) (now switches) 2 (now cases) ⌝ }
     requires { ⌜ SharesFit 1 3 (outside .used .switches) (now switches) 4 (now ranges) ⌝ }
@@ -87,6 +88,7 @@ fn back(
 
 // A stripped artifact has an empty table.
 fn table(at: usize, strip: bool, text: &[u8], positions: Span) -> usize
+    requires { ⌜ at ≤ 1048577 ⌝ }
     ensures { λ r. ⌜ Counts (putBytes (tableIn strip (now (text .entry)) positions)) at r ⌝ }
 {
     if strip {

@@ -1,4 +1,4 @@
--- The count, and the bytes behind it.
+-- The count, and the bytes behind it, capped.
 use Rattle.model.specs.Lent.{clip}
 use Rattle.sizes.proofs.Laws.{text-counts}
 use borrow.Author.Needs.{needs}
@@ -11,15 +11,18 @@ clipped-requires c κs = search needs
 number-requires : tie.Need-number-requires
 number-requires c κs = search needs
 
+least-requires : tie.Need-least-requires
+least-requires c κs = search needs
+
+add-plus : tie.Need-add-plus
+add-plus c = search needs
+
 plus-requires : tie.Need-plus-requires
 plus-requires c κs = search needs
 
-plus-requires-2 : tie.Need-plus-requires-2
-plus-requires-2 c κs = search needs
-
 returns : tie.Need-returns
-returns c = text-counts (clip (c .before .before .before .before .before .args .s .now) (c .before .before .before .before .before .args .span)) (c .before .before .before .clipped .ensures) (c .before .before .number .ensures .0) (c .before .plus .ensures) (c .plus2 .ensures)
+returns c = text-counts (clip (c .before .before .before .before .before .args .s .now) (c .before .before .before .before .before .args .span)) (c .before .before .before .clipped .ensures) (c .before .before .number .ensures .0) (c .before .least .ensures) (c .plus .ensures)
 
 pub text-spec : {M : Type 1} → statement M
 text-spec =
-    tie.close (tie.spec clipped-requires number-requires plus-requires plus-requires-2 returns)
+    tie.close (tie.spec clipped-requires number-requires least-requires add-plus plus-requires returns)

@@ -24,7 +24,7 @@ indices-requires : tie.Need-indices-requires
 indices-requires c κs = search needs
 
 returns : tie.Need-returns
-returns c = let a = c .before .before .before .before .before .before .args in shares-count putFunction ownFunction putName (λ f. f .parameters) function-apart 3 7 functionOf (a .used) (a .t .now) 1 parameterOf (a .parameters .now) (λ row. refl) (c .before .before .before .number .ensures .0) (c .before .before .plus .ensures) (c .before .function-rows .ensures) (c .before .before .before .before .before .before .pre .1) (counts-same (ap length (parameters-indices (a .owned) (a .parameters .now))) (c .indices .ensures))
+returns c = let a = c .before .before .before .before .before .before .args in shares-count putFunction ownFunction putName (λ f. f .parameters) function-apart 3 7 functionOf (a .used) (a .t .now) 1 parameterOf (a .parameters .now) (λ row. refl) (c .before .before .before .number .ensures .0) (c .before .before .plus .ensures) (c .before .function-rows .ensures) (c .before .before .before .before .before .before .pre .1 .1) (counts-same (ap length (parameters-indices (a .owned) (a .parameters .now))) (c .indices .ensures))
 
 pub functions-spec : {M : Type 1} → statement M
 functions-spec =

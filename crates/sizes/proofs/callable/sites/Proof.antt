@@ -22,7 +22,7 @@ input-rows-requires : tie.Need-input-rows-requires
 input-rows-requires c κs = search needs
 
 returns : tie.Need-returns
-returns c = let a = c .before .before .before .before .before .before .args in shares-count putSite ownSite putInput (λ u. u .inputs) site-apart 2 3 siteOf (a .used) (a .t .now) 5 inputOf (a .inputs .now) (λ row. refl) (c .before .before .before .number .ensures .0) (c .before .before .plus .ensures) (c .before .site-rows .ensures) (c .before .before .before .before .before .before .pre .1) (c .input-rows .ensures)
+returns c = let a = c .before .before .before .before .before .before .args in shares-count putSite ownSite putInput (λ u. u .inputs) site-apart 2 3 siteOf (a .used) (a .t .now) 5 inputOf (a .inputs .now) (λ row. refl) (c .before .before .before .number .ensures .0) (c .before .before .plus .ensures) (c .before .site-rows .ensures) (c .before .before .before .before .before .before .pre .1 .1) (c .input-rows .ensures)
 
 pub sites-spec : {M : Type 1} → statement M
 sites-spec =

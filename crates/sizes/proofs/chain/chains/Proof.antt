@@ -26,7 +26,7 @@ step-rows-requires : tie.Need-step-rows-requires
 step-rows-requires c κs = search needs
 
 returns : tie.Need-returns
-returns c = let a = c .before .before .before .before .before .before .args in counts-same (ap length (chains-in (a .strip) (chainsOf (a .t .now) (a .used) (a .steps .now)))) (shares-count (putChainIn (a .strip)) (ownChain (a .strip)) (putStepIn (a .strip)) (λ x. x .steps) (chain-apart (a .strip)) 6 9 chainOf (a .used) (a .t .now) 11 stepOf (a .steps .now) (λ row. refl) (c .before .before .before .number .ensures .0) (c .before .before .plus .ensures) (c .before .chain-rows .ensures) (c .before .before .before .before .before .before .pre .1) (c .step-rows .ensures))
+returns c = let a = c .before .before .before .before .before .before .args in counts-same (ap length (chains-in (a .strip) (chainsOf (a .t .now) (a .used) (a .steps .now)))) (shares-count (putChainIn (a .strip)) (ownChain (a .strip)) (putStepIn (a .strip)) (λ x. x .steps) (chain-apart (a .strip)) 6 9 chainOf (a .used) (a .t .now) 11 stepOf (a .steps .now) (λ row. refl) (c .before .before .before .number .ensures .0) (c .before .before .plus .ensures) (c .before .chain-rows .ensures) (c .before .before .before .before .before .before .pre .1 .1) (c .step-rows .ensures))
 
 pub chains-spec : {M : Type 1} → statement M
 chains-spec =

@@ -14,11 +14,8 @@ Inv-loop at strip t used place₀ j₀ place j = Flat (putStepIn strip) 11 stepO
 abbrev μ-loop : tie.MeasureT-loop
 μ-loop at strip t used place₀ j₀ place j = used - j
 
-plus-requires : tie.Need-plus-requires Inv-loop μ-loop
-plus-requires c κs = search needs
-
 loop-holds : tie.Need-loop-holds Inv-loop μ-loop
-loop-holds c = flat-none (c .before .before .pre) (c .plus .ensures)
+loop-holds c = flat-none (c .before .pre .1) (c .before .pre .0)
 
 mul-of-eleven : tie.Need-mul-of-eleven Inv-loop μ-loop
 mul-of-eleven c = omega arith
@@ -29,8 +26,8 @@ of-eleven-requires c κs = omega arith
 step-requires : tie.Need-step-requires Inv-loop μ-loop
 step-requires c κs = search needs
 
-plus-requires-2 : tie.Need-plus-requires-2 Inv-loop μ-loop
-plus-requires-2 c κs = search needs
+plus-requires : tie.Need-plus-requires Inv-loop μ-loop
+plus-requires c κs = search needs
 
 add-j : tie.Need-add-j Inv-loop μ-loop
 add-j c = omega arith
@@ -39,7 +36,7 @@ loop-less : tie.Need-loop-less Inv-loop μ-loop
 loop-less c = omega arith
 
 loop-again : tie.Need-loop-again Inv-loop μ-loop
-loop-again c = flat-more (c .before .before .before .before .loop .inv) (c .before .before .before .loop-test .taken) (c .before .before .of-eleven .ensures) (c .before .step .ensures .0) (c .plus2 .ensures)
+loop-again c = flat-more (c .before .before .before .before .loop .inv) (c .before .before .before .loop-test .taken) (c .before .before .of-eleven .ensures) (c .before .step .ensures .0) (c .plus .ensures)
 
 returns : tie.Need-returns Inv-loop μ-loop
 returns c = flat-done (c .before .loop .inv) (c .loop-test .left)
@@ -50,12 +47,11 @@ step-rows-spec =
     (tie.spec
     Inv-loop
     μ-loop
-    plus-requires
     loop-holds
     mul-of-eleven
     of-eleven-requires
     step-requires
-    plus-requires-2
+    plus-requires
     add-j
     loop-less
     loop-again

@@ -2,6 +2,7 @@
 use Rattle.format.specs.Artifact.{levels}
 use Rattle.emit.proofs.Standing.{fit-stand}
 use Rattle.sizes.proofs.Grown.{tops-count}
+use native.Mathlib.Omega.{arith}
 use borrow.Author.Needs.{needs}
 use Rattle.sizes.proofs.constant.constants.Statement.{statement}
 use Rattle.sizes.proofs.constant.constants.Tie as tie
@@ -16,10 +17,10 @@ add-items : tie.Need-add-items
 add-items c = search needs
 
 items-requires : tie.Need-items-requires
-items-requires c κs = fit-stand (c .before .before .before .before .pre)
+items-requires c κs = (omega arith, fit-stand (c .before .before .before .before .pre .1))
 
 returns : tie.Need-returns
-returns c = tops-count levels (c .before .before .before .before .before .args .tops) (fit-stand (c .before .before .before .before .before .pre)) (c .before .before .number .ensures .0) (c .before .plus .ensures) (c .items .ensures)
+returns c = tops-count levels (c .before .before .before .before .before .args .tops) (fit-stand (c .before .before .before .before .before .pre .1)) (c .before .before .number .ensures .0) (c .before .plus .ensures) (c .items .ensures)
 
 pub constants-spec : {M : Type 1} → statement M
 constants-spec =

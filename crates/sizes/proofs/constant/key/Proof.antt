@@ -1,29 +1,24 @@
 -- Where it has one.
-use Rattle.rows.specs.Back.{keyedOf}
-use Rattle.sizes.proofs.Tags.{key-counts}
+use Rattle.sizes.proofs.Laws.{counts-none}
 use borrow.Author.Needs.{needs}
 use Rattle.sizes.proofs.constant.key.Statement.{statement}
 use Rattle.sizes.proofs.constant.key.Tie as tie
 
-array-read-plus : tie.Need-array-read-plus
-array-read-plus c = search needs
+array-read-t9 : tie.Need-array-read-t9
+array-read-t9 c = search needs
 
-array-read-when : tie.Need-array-read-when
-array-read-when c = search needs
+array-read-t13 : tie.Need-array-read-t13
+array-read-t13 c = search needs
 
 text-requires : tie.Need-text-requires
 text-requires c κs = search needs
 
-when-requires : tie.Need-when-requires
-when-requires c κs = search needs
-
-plus-requires : tie.Need-plus-requires
-plus-requires c κs = search needs
-
 returns : tie.Need-returns
-returns c = key-counts (c .before .before .before .before .args .keys) (c .before .before .before .before .args .s .now) (keyedOf (c .before .before .before .before .args .t4) .key) (c .before .before .text .ensures) (c .before .when .ensures .0) (c .plus .ensures)
+returns c = rw (c .before .if1 .taken) (c .text .ensures)
+
+returns-2 : tie.Need-returns-2
+returns-2 c = rw (c .if1 .left) (counts-none (c .before .before .pre))
 
 pub key-spec : {M : Type 1} → statement M
 key-spec =
-    tie.close
-    (tie.spec array-read-plus array-read-when text-requires when-requires plus-requires returns)
+    tie.close (tie.spec array-read-t9 array-read-t13 text-requires returns returns-2)

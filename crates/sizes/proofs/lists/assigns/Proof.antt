@@ -22,7 +22,7 @@ plus-requires : tie.Need-plus-requires Inv-loop μ-loop
 plus-requires c κs = search needs
 
 loop-holds : tie.Need-loop-holds Inv-loop μ-loop
-loop-holds c = flat-none (c .before .before .before .before .pre) (omega arith)
+loop-holds c = flat-none (c .before .before .before .before .pre .1) (omega arith)
 
 mul-of-six : tie.Need-mul-of-six Inv-loop μ-loop
 mul-of-six c = omega arith

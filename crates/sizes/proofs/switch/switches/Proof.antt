@@ -20,7 +20,7 @@ range-rows-requires : tie.Need-range-rows-requires
 range-rows-requires c κs = search needs
 
 returns : tie.Need-returns
-returns c = let a = c .before .before .before .before .before .before .before .before .args in switches-count (a .t .now) (a .used) (a .cases .now) (a .ranges .now) (c .before .before .before .before .number .ensures .0) (c .before .before .before .plus .ensures) (c .before .before .switch-rows .ensures) (c .before .before .before .before .before .before .before .before .pre .1 .1 .0) (c .before .case-rows .ensures) (c .before .before .before .before .before .before .before .before .pre .1 .1 .1) (c .range-rows .ensures)
+returns c = let a = c .before .before .before .before .before .before .before .before .args in switches-count (a .t .now) (a .used) (a .cases .now) (a .ranges .now) (c .before .before .before .before .number .ensures .0) (c .before .before .before .plus .ensures) (c .before .before .switch-rows .ensures) (c .before .before .before .before .before .before .before .before .pre .1 .1 .1 .0) (c .before .case-rows .ensures) (c .before .before .before .before .before .before .before .before .pre .1 .1 .1 .1) (c .range-rows .ensures)
 
 pub switches-spec : {M : Type 1} → statement M
 switches-spec =

@@ -1,6 +1,7 @@
 -- One section behind another.
 use Rattle.sizes.proofs.Laws.{counts-then}
 use Rattle.writing.specs.Halves.{backBytes}
+use native.Mathlib.Omega.{arith}
 use borrow.Author.Needs.{needs}
 use Rattle.writing.proofs.count.back.Statement.{statement}
 use Rattle.writing.proofs.count.back.Tie as tie
@@ -9,16 +10,16 @@ chains-requires : tie.Need-chains-requires
 chains-requires c κs = search needs
 
 switches-requires : tie.Need-switches-requires
-switches-requires c κs = search needs
+switches-requires c κs = let r = c .before .before .before .before .before .before .before .before .before .before .before .before .pre .1 in (omega arith, (r .1 .0, (r .1 .1 .0, (r .1 .1 .1 .1 .1 .1 .0, r .1 .1 .1 .1 .1 .1 .1 .0))))
 
 sites-requires : tie.Need-sites-requires
-sites-requires c κs = (c .before .before .before .before .before .before .before .before .before .before .before .before .before .pre .1 .1 .1 .0, c .before .before .before .before .before .before .before .before .before .before .before .before .before .pre .1 .1 .1 .1 .1 .1 .1 .1 .0)
+sites-requires c κs = let r = c .before .before .before .before .before .before .before .before .before .before .before .before .before .pre .1 in (omega arith, (r .1 .1 .1 .0, r .1 .1 .1 .1 .1 .1 .1 .1 .0))
 
 chunk-requires : tie.Need-chunk-requires
 chunk-requires c κs = search needs
 
 functions-requires : tie.Need-functions-requires
-functions-requires c κs = (c .before .before .before .before .before .before .before .before .before .before .before .before .before .before .before .pre .1 .1 .1 .1 .0, c .before .before .before .before .before .before .before .before .before .before .before .before .before .before .before .pre .1 .1 .1 .1 .1 .1 .1 .1 .1)
+functions-requires c κs = let r = c .before .before .before .before .before .before .before .before .before .before .before .before .before .before .before .pre .1 in (omega arith, (r .1 .1 .1 .1 .0, r .1 .1 .1 .1 .1 .1 .1 .1 .1))
 
 text-requires : tie.Need-text-requires
 text-requires c κs = search needs
