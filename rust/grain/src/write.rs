@@ -123,13 +123,16 @@ impl Artifact<'_> {
         self.model().write(positions, out)
     }
 
-    /// Writes the artifact anew into bytes of its own.
+    /// Writes the artifact anew into bytes of its own, in one call: as many as were read are enough.
     ///
     /// # Errors
     ///
-    /// None, as long as the archive keeps what is proved of it: what was accepted is well-formed.
+    /// None, as long as the archive keeps what is proved of it: what was accepted is well-formed, and takes no more bytes.
     #[cfg(feature = "std")]
     pub fn to_bytes(&self, positions: Positions) -> Result<std::vec::Vec<u8>, Refusal> {
-        self.model().to_bytes(positions)
+        let mut bytes = std::vec![0; self.bytes().len()];
+        let size = self.write(positions, &mut bytes)?;
+        bytes.truncate(size);
+        Ok(bytes)
     }
 }
