@@ -32,15 +32,6 @@ pub struct Place {
 fn width(value: u32) -> usize
     ensures { λ r. ⌜ r ≡ length (shortest value) ⌝ }
 {
-    if value < 0x80 {
-        return 1;
-    }
-    if value < 0x4000 {
-        return 2;
-    }
-    if value < 0x20_0000 {
-        return 3;
-    }
     varint::size(value as u64)
 }
 
