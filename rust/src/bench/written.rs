@@ -63,6 +63,6 @@ pub fn all() {
         timed(&format!("{way} positions"), &with_positions(2_000), strip, Room::Enough);
     }
     for (what, style, size) in FILES {
-        timed(&format!("no room, {what}"), &file(Of::All, style, size), 0, Room::None);
+        timed(&format!("judge {what}"), &file(Of::All, style, size), 0, Room::None);
     }
 }
