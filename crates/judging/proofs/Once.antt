@@ -11,7 +11,7 @@ use Rattle.model.specs.Lent.{Lent, every, constantRows, tokenRows, assignRows, 
 use Rattle.model.specs.Rules.{sharesFit, lies, isText, spanAt, outsideLies, keyed, knownConstant, knownChain, knownStep, knownFunction, soundAssign, soundChain, soundStep, soundSwitch, soundCase, soundRange, soundSite, soundInput, soundFunction, soundWord, rule4, rule6, rule10}
 use Rattle.model.specs.Written.{firstOfTen, brokenOfTen}
 use Rattle.rules.specs.Keeps.{keepsSpan, keepsText, keepsChar, keepsConstant, keepsKey, keepsToken, keepsAssign, keepsChain, keepsStep, keepsCase, keepsFunction}
-use Rattle.rules.specs.Once.{frontHolds, backHolds, callablesHold}
+use Rattle.rules.specs.Once.{textsKeep, switchesKeep, callablesKeep}
 use Rattle.rules.proofs.Both.{Both, both}
 use Rattle.judging.specs.Standing.{RowsStand}
 use Rattle.judging.proofs.Kept.{Kept}
@@ -97,38 +97,38 @@ module _ {m : Lent} (stand : RowsStand m) where
   abbrev u : Used
   u = m .outside .used
 
+  abbrev outerHolds : Bool
+  outerHolds =
+      m .numbersFit && outsideLies (m .text) (m .outside .source) (m .outside .blob) (m .outside .code) (m .outside .positions)
+
   abbrev aroundHolds : Bool
-  aroundHolds =
-      (m .numbersFit && outsideLies (m .text) (m .outside .source) (m .outside .blob) (m .outside .code) (m .outside .positions))
-      && (isText (m .text) (m .outside .source) && rule4 m)
+  aroundHolds = outerHolds && ((isText (m .text) (m .outside .source) && rule4 m) && every soundWord (cut 1 (u .names) (m .ends)))
 
   pub around-lies : aroundHolds ≡ true → m .outside .positions .start + m .outside .positions .size ≤ length (m .text)
-  around-lies e =
-      let spots = both (m .numbersFit && outsideLies (m .text) (m .outside .source) (m .outside .blob) (m .outside .code) (m .outside .positions)) _ e in
-      positions-lie m (both (m .numbersFit) _ (spots .first) .second)
+  around-lies e = positions-lie m (both (m .numbersFit) _ (both outerHolds _ e .first) .second)
 
   pub none-broken : (mask : ℕ) →
       sharesFit u (m .outside .tops) (m .constants) (m .chains) (m .switches) (m .customs) (m .functions) ≡ true →
       rule6 m ≡ true → aroundHolds ≡ true →
-      frontHolds (m .text) u (m .ends) (m .constants) (m .tokens) (m .assigns) ≡ true →
-      backHolds mask (m .outside .tops) u (m .chains) (m .steps) (m .switches) (m .cases) (m .ranges) ≡ true →
-      callablesHold u (m .customs) (m .inputs) (m .functions) (m .parameters) ≡ true →
+      textsKeep 0 (m .text) u (m .constants) (m .tokens) (m .assigns) ≡ true →
+      every (keepsChain 0) (chainRows m) && every (keepsStep 0 mask) (stepRows m) ≡ true →
+      switchesKeep 0 (m .outside .tops) u (m .switches) (m .cases) (m .ranges) ≡ true →
+      callablesKeep 0 u (m .customs) (m .inputs) (m .functions) (m .parameters) ≡ true →
       rule10 m ≡ true → brokenOfTen mask m ≡ 0
-  none-broken mask shares six around front back callables ten =
-      let spots = both (m .numbersFit && outsideLies (m .text) (m .outside .source) (m .outside .blob) (m .outside .code) (m .outside .positions)) _ around in
+  none-broken mask shares six around texts chained switched callables ten =
+      let spots = both outerHolds _ around in
       let outer = both (m .numbersFit) _ (spots .first) in
-      let names = both (isText (m .text) (m .outside .source)) (rule4 m) (spots .second) in
-      let lists = both (every soundWord (cut 1 (u .names) (m .ends))) _ front in
-      let texts = both (every (keepsConstant 0 (m .text)) (constantRows m) && every (keepsKey 0 (m .text)) (keyed (constantRows m))) _ (lists .second) in
-      let tree = both (every (keepsConstant 0 (m .text)) (constantRows m)) _ (texts .first) in
-      let plain = both (every (keepsToken 0 (m .text)) (tokenRows m)) _ (texts .second) in
+      let strings = both (isText (m .text) (m .outside .source) && rule4 m) _ (spots .second) in
+      let names = both (isText (m .text) (m .outside .source)) (rule4 m) (strings .first) in
+      let told = both (every (keepsConstant 0 (m .text)) (constantRows m) && every (keepsKey 0 (m .text)) (keyed (constantRows m))) _ texts in
+      let tree = both (every (keepsConstant 0 (m .text)) (constantRows m)) _ (told .first) in
+      let plain = both (every (keepsToken 0 (m .text)) (tokenRows m)) _ (told .second) in
       let cs = constants (m .text) (constantRows m) (tree .first) in
       let ks = spans (m .text) (keyed (constantRows m)) 6 (tree .second) in
       let ts = spans (m .text) (tokenRows m) 0 (plain .first) in
       let rs = assigns (m .text) (assignRows m) (plain .second) in
-      let jumps = both (every (keepsChain 0) (chainRows m) && every (keepsStep 0 mask) (stepRows m)) _ back in
-      let links = both (every (keepsChain 0) (chainRows m)) _ (jumps .first) in
-      let choices = both (every soundSwitch (switchRows m)) _ (jumps .second) in
+      let links = both (every (keepsChain 0) (chainRows m)) _ chained in
+      let choices = both (every soundSwitch (switchRows m)) _ switched in
       let items = both (every (keepsCase 0 (m .outside .tops)) (caseRows m)) _ (choices .second) in
       let calls = both (every soundSite (customRows m) && every soundInput (inputRows m)) _ callables in
       let fs = both (every (keepsFunction 0) (functionRows m)) _ (calls .second) in
@@ -148,7 +148,7 @@ module _ {m : Lent} (stand : RowsStand m) where
             both-hold
             (outer .first)
             (both-hold
-            (both-hold (both-hold (lists .first) (rs .nine)) (both-hold (seconds knownChain soundChain (chainRows m) (links .first)) (seconds (knownStep mask) soundStep (stepRows m) (links .second))))
+            (both-hold (both-hold (strings .second) (rs .nine)) (both-hold (seconds knownChain soundChain (chainRows m) (links .first)) (seconds (knownStep mask) soundStep (stepRows m) (links .second))))
             (both-hold
             (both-hold (choices .first) (both-hold (seconds (λ row. ltb (word row 1) (m .outside .tops)) soundCase (caseRows m) (items .first)) (items .second)))
             (both-hold (calls .first) (both-hold (seconds knownFunction soundFunction (functionRows m) (fs .first)) (fs .second)))));

@@ -6,9 +6,11 @@ ghost use Prim.Native.Nat.{_*_, _≤_};
 ghost use lib.ListN.{length, take};
 ghost use lib.Dec.{eqb};
 ghost use Rattle.format.specs.File.{rising, lastEnd};
-ghost use Rattle.model.specs.Lent.{lent};
+ghost use Rattle.rows.specs.Back.{cut};
+ghost use Rattle.model.specs.Lent.{lent, every};
 ghost use Rattle.model.specs.Rules as definition;
 ghost use Rattle.model.specs.Written.{brokenOfTen};
+ghost use Rattle.rules.specs.Keeps as keeps;
 ghost use Rattle.judging.specs.Standing.{RowsStand, FiveHold};
 use format::answer::Artifact;
 use format::answer::Used;
@@ -19,6 +21,7 @@ use rules::positions;
 use rules::texts;
 use rules::trees;
 use rules::whole;
+use rules::words::ALL;
 use rules::words::both;
 
 // By its number, 0 where none is broken. `fit` says that the numbers outside the tables fit their kinds (rule 9).
@@ -144,22 +147,16 @@ fn none_broken(
     if !around_holds(outside, fit, names, text) {
         return false;
     }
-    if !whole::front_holds(u, names, constants, tokens, assigns, text) {
+    if !whole::texts_keep(ALL, u, constants, tokens, assigns, text) {
         return false;
     }
-    if !whole::back_holds(
-        mask,
-        outside.tops,
-        u,
-        chains,
-        steps,
-        switches,
-        cases,
-        ranges,
-    ) {
+    if !links_hold(mask, u, chains, steps) {
         return false;
     }
-    if !whole::callables_hold(u, customs, inputs, functions, parameters) {
+    if !whole::switches_keep(ALL, outside.tops, u, switches, cases, ranges) {
+        return false;
+    }
+    if !whole::callables_keep(ALL, u, customs, inputs, functions, parameters) {
         return false;
     }
     positions::sound_table(text, outside.positions)
@@ -168,7 +165,7 @@ fn none_broken(
 // What stands outside the tables, and the names.
 fn around_holds(outside: Artifact, fit: bool, names: &[u64], text: &[u8]) -> bool
     requires { ⌜ outside .used .names ≤ length (now names) ⌝ }
-    ensures { λ r. ⌜ r ≡ ((fit && definition.outsideLies (now (text .entry)) (outside .source) (outside .blob) (outside .code) (outside .positions)) && (definition.isText (now (text .entry)) (outside .source) && ((rising 0 (take (outside .used .names) (now (names .entry))) && eqb (lastEnd 0 (take (outside .used .names) (now (names .entry)))) (outside .blob .size)) && definition.isText (now (text .entry)) (outside .blob)))) ⌝ }
+    ensures { λ r. ⌜ r ≡ ((fit && definition.outsideLies (now (text .entry)) (outside .source) (outside .blob) (outside .code) (outside .positions)) && ((definition.isText (now (text .entry)) (outside .source) && ((rising 0 (take (outside .used .names) (now (names .entry))) && eqb (lastEnd 0 (take (outside .used .names) (now (names .entry)))) (outside .blob .size)) && definition.isText (now (text .entry)) (outside .blob))) && every definition.soundWord (cut 1 (outside .used .names) (now (names .entry))))) ⌝ }
 {
     let source = outside.source;
     let lie = texts::outside_lies(text, source, outside.blob, outside.code, outside.positions);
@@ -176,7 +173,22 @@ fn around_holds(outside: Artifact, fit: bool, names: &[u64], text: &[u8]) -> boo
         utf8::is_utf8_at(text, source.start, source.size),
         names_hold(outside, names, text),
     );
-    both(both(fit, lie), strings)
+    both(
+        both(fit, lie),
+        both(strings, each::indices(names, outside.used.names)),
+    )
+}
+
+// Chains and their steps.
+fn links_hold(mask: u8, u: Used, chains: &[u64], steps: &[u64]) -> bool
+    requires { ⌜ u .chains * 9 ≤ length (now chains) ⌝ }
+    requires { ⌜ u .steps * 11 ≤ length (now steps) ⌝ }
+    ensures { λ r. ⌜ r ≡ (every (keeps.keepsChain 0) (cut 9 (u .chains) (now (chains .entry))) && every (keeps.keepsStep 0 mask) (cut 11 (u .steps) (now (steps .entry)))) ⌝ }
+{
+    both(
+        each::chains(ALL, chains, u.chains),
+        each::steps(ALL, mask, steps, u.steps),
+    )
 }
 
 // Where the rows are there.
@@ -325,7 +337,7 @@ fn spans_lie(
             outside.code,
             outside.positions,
         ),
-        whole::texts_lie(outside.used, constants, tokens, assigns, text),
+        whole::texts_keep(2, outside.used, constants, tokens, assigns, text),
     )
 }
 
@@ -345,7 +357,7 @@ fn strings_are_utf8(
     let source = outside.source;
     both(
         utf8::is_utf8_at(text, source.start, source.size),
-        whole::texts_are_utf8(outside.used, constants, tokens, assigns, text),
+        whole::texts_keep(3, outside.used, constants, tokens, assigns, text),
     )
 }
 
@@ -393,8 +405,8 @@ fn numbers_fit(
     ensures { λ r. ⌜ r ≡ (fit && (definition.soundFront u (now (names .entry)) (now (assigns .entry)) (now (chains .entry)) (now (steps .entry)) && (definition.soundSwitches u (now (switches .entry)) (now (cases .entry)) (now (ranges .entry)) && definition.soundCallables u (now (customs .entry)) (now (inputs .entry)) (now (functions .entry)) (now (parameters .entry))))) ⌝ }
 {
     let items = both(
-        whole::sound_switches(u, switches, cases, ranges),
-        whole::sound_callables(u, customs, inputs, functions, parameters),
+        whole::switches_keep(9, 0, u, switches, cases, ranges),
+        whole::callables_keep(9, u, customs, inputs, functions, parameters),
     );
     let rows = both(
         whole::sound_front(u, names, assigns, chains, steps, text),

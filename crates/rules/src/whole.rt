@@ -3,11 +3,10 @@ ghost use mathlib.Core.Path.{_≡_};
 ghost use Prim.Native.Nat.{_*_, _≤_};
 ghost use lib.ListN.{length};
 ghost use Rattle.model.specs.Rules as definition;
-ghost use Rattle.rules.specs.Once.{frontHolds, backHolds, callablesHold};
+ghost use Rattle.rules.specs.Once as keeps;
 use crate::each;
 use crate::shares::shares_use;
 use crate::trees;
-use crate::words::ALL;
 use crate::words::both;
 use format::answer::Used;
 
@@ -38,26 +37,9 @@ pub fn shares_fit(
     both(trees::exactly(constants, u.constants, tops), steps)
 }
 
-// 2. spans lie in the lent text: those of the tables
-pub fn texts_lie(u: Used, constants: &[u64], tokens: &[u64], assigns: &[u64], text: &[u8]) -> bool
-    requires { ⌜ u .constants * 8 ≤ length (now constants) ⌝ }
-    requires { ⌜ u .tokens * 2 ≤ length (now tokens) ⌝ }
-    requires { ⌜ u .assigns * 6 ≤ length (now assigns) ⌝ }
-    ensures { λ r. ⌜ r ≡ definition.texts definition.texted (definition.lies (now (text .entry))) u (now (constants .entry)) (now (tokens .entry)) (now (assigns .entry)) ⌝ }
-{
-    let tree = both(
-        each::constants(2, constants, u.constants, text),
-        trees::keys(2, constants, u.constants, text),
-    );
-    let tokens = both(
-        each::tokens(2, tokens, u.tokens, text),
-        each::assigns(2, assigns, u.assigns, text),
-    );
-    both(tree, tokens)
-}
-
-// 3. strings are UTF-8: those of the tables
-pub fn texts_are_utf8(
+// 2, 3: texts lie in the lent text, and strings are UTF-8: those of the tables; with ALL what else is asked of these rows besides
+pub fn texts_keep(
+    rule: u8,
     u: Used,
     constants: &[u64],
     tokens: &[u64],
@@ -67,17 +49,17 @@ pub fn texts_are_utf8(
     requires { ⌜ u .constants * 8 ≤ length (now constants) ⌝ }
     requires { ⌜ u .tokens * 2 ≤ length (now tokens) ⌝ }
     requires { ⌜ u .assigns * 6 ≤ length (now assigns) ⌝ }
-    ensures { λ r. ⌜ r ≡ definition.texts definition.named (definition.isText (now (text .entry))) u (now (constants .entry)) (now (tokens .entry)) (now (assigns .entry)) ⌝ }
+    ensures { λ r. ⌜ r ≡ keeps.textsKeep rule (now (text .entry)) u (now (constants .entry)) (now (tokens .entry)) (now (assigns .entry)) ⌝ }
 {
     let tree = both(
-        each::constants(3, constants, u.constants, text),
-        trees::keys(3, constants, u.constants, text),
+        each::constants(rule, constants, u.constants, text),
+        trees::keys(rule, constants, u.constants, text),
     );
-    let tokens = both(
-        each::tokens(3, tokens, u.tokens, text),
-        each::assigns(3, assigns, u.assigns, text),
+    let lists = both(
+        each::tokens(rule, tokens, u.tokens, text),
+        each::assigns(rule, assigns, u.assigns, text),
     );
-    both(tree, tokens)
+    both(tree, lists)
 }
 
 // 5. tags and access known, flags within the mask
@@ -133,22 +115,30 @@ pub fn sound_front(
     both(front, behind)
 }
 
-// switches, cases and ranges
-pub fn sound_switches(u: Used, switches: &[u64], cases: &[u64], ranges: &[u64]) -> bool
+// switches, cases and ranges; with ALL rule 8 besides
+pub fn switches_keep(
+    rule: u8,
+    tops: usize,
+    u: Used,
+    switches: &[u64],
+    cases: &[u64],
+    ranges: &[u64],
+) -> bool
     requires { ⌜ u .switches * 3 ≤ length (now switches) ⌝ }
     requires { ⌜ u .cases * 2 ≤ length (now cases) ⌝ }
     requires { ⌜ u .ranges * 4 ≤ length (now ranges) ⌝ }
-    ensures { λ r. ⌜ r ≡ definition.soundSwitches u (now (switches .entry)) (now (cases .entry)) (now (ranges .entry)) ⌝ }
+    ensures { λ r. ⌜ r ≡ keeps.switchesKeep rule tops u (now (switches .entry)) (now (cases .entry)) (now (ranges .entry)) ⌝ }
 {
     let items = both(
-        each::cases(9, 0, cases, u.cases),
+        each::cases(rule, tops, cases, u.cases),
         each::ranges(ranges, u.ranges),
     );
     both(each::switches(switches, u.switches), items)
 }
 
-// custom sites and functions, inputs and parameters
-pub fn sound_callables(
+// custom sites and functions, inputs and parameters; with ALL rule 5 besides
+pub fn callables_keep(
+    rule: u8,
     u: Used,
     customs: &[u64],
     inputs: &[u64],
@@ -159,94 +149,14 @@ pub fn sound_callables(
     requires { ⌜ u .inputs * 5 ≤ length (now inputs) ⌝ }
     requires { ⌜ u .functions * 7 ≤ length (now functions) ⌝ }
     requires { ⌜ u .parameters ≤ length (now parameters) ⌝ }
-    ensures { λ r. ⌜ r ≡ definition.soundCallables u (now (customs .entry)) (now (inputs .entry)) (now (functions .entry)) (now (parameters .entry)) ⌝ }
+    ensures { λ r. ⌜ r ≡ keeps.callablesKeep rule u (now (customs .entry)) (now (inputs .entry)) (now (functions .entry)) (now (parameters .entry)) ⌝ }
 {
     let front = both(
         each::customs(customs, u.customs),
         each::inputs(inputs, u.inputs),
     );
     let behind = both(
-        each::functions(9, functions, u.functions),
-        each::indices(parameters, u.parameters),
-    );
-    both(front, behind)
-}
-
-// All rules at once, for names, constants, tokens and assign records.
-pub fn front_holds(
-    u: Used,
-    ends: &[u64],
-    constants: &[u64],
-    tokens: &[u64],
-    assigns: &[u64],
-    text: &[u8],
-) -> bool
-    requires { ⌜ u .names ≤ length (now ends) ⌝ }
-    requires { ⌜ u .constants * 8 ≤ length (now constants) ⌝ }
-    requires { ⌜ u .tokens * 2 ≤ length (now tokens) ⌝ }
-    requires { ⌜ u .assigns * 6 ≤ length (now assigns) ⌝ }
-    ensures { λ r. ⌜ r ≡ frontHolds (now (text .entry)) u (now (ends .entry)) (now (constants .entry)) (now (tokens .entry)) (now (assigns .entry)) ⌝ }
-{
-    let tree = both(
-        each::constants(ALL, constants, u.constants, text),
-        trees::keys(ALL, constants, u.constants, text),
-    );
-    let lists = both(
-        each::tokens(ALL, tokens, u.tokens, text),
-        each::assigns(ALL, assigns, u.assigns, text),
-    );
-    both(each::indices(ends, u.names), both(tree, lists))
-}
-
-// for chains, switches and what they own
-pub fn back_holds(
-    mask: u8,
-    tops: usize,
-    u: Used,
-    chains: &[u64],
-    steps: &[u64],
-    switches: &[u64],
-    cases: &[u64],
-    ranges: &[u64],
-) -> bool
-    requires { ⌜ u .chains * 9 ≤ length (now chains) ⌝ }
-    requires { ⌜ u .steps * 11 ≤ length (now steps) ⌝ }
-    requires { ⌜ u .switches * 3 ≤ length (now switches) ⌝ }
-    requires { ⌜ u .cases * 2 ≤ length (now cases) ⌝ }
-    requires { ⌜ u .ranges * 4 ≤ length (now ranges) ⌝ }
-    ensures { λ r. ⌜ r ≡ backHolds mask tops u (now (chains .entry)) (now (steps .entry)) (now (switches .entry)) (now (cases .entry)) (now (ranges .entry)) ⌝ }
-{
-    let links = both(
-        each::chains(ALL, chains, u.chains),
-        each::steps(ALL, mask, steps, u.steps),
-    );
-    let items = both(
-        each::cases(ALL, tops, cases, u.cases),
-        each::ranges(ranges, u.ranges),
-    );
-    both(links, both(each::switches(switches, u.switches), items))
-}
-
-// for custom sites, functions and what they own
-pub fn callables_hold(
-    u: Used,
-    customs: &[u64],
-    inputs: &[u64],
-    functions: &[u64],
-    parameters: &[u64],
-) -> bool
-    requires { ⌜ u .customs * 3 ≤ length (now customs) ⌝ }
-    requires { ⌜ u .inputs * 5 ≤ length (now inputs) ⌝ }
-    requires { ⌜ u .functions * 7 ≤ length (now functions) ⌝ }
-    requires { ⌜ u .parameters ≤ length (now parameters) ⌝ }
-    ensures { λ r. ⌜ r ≡ callablesHold u (now (customs .entry)) (now (inputs .entry)) (now (functions .entry)) (now (parameters .entry)) ⌝ }
-{
-    let front = both(
-        each::customs(customs, u.customs),
-        each::inputs(inputs, u.inputs),
-    );
-    let behind = both(
-        each::functions(ALL, functions, u.functions),
+        each::functions(rule, functions, u.functions),
         each::indices(parameters, u.parameters),
     );
     both(front, behind)

@@ -110,6 +110,7 @@ fn walk(
     state
 }
 
+// Sixteen bytes or-ed together: below 128 only where each of them is ASCII.
 fn sixteen(bytes: &[u8], at: usize) -> u8
     requires { ⌜ at + 16 ≤ length (now bytes) ⌝ }
     ensures { λ r. ⌜ Covers (now (bytes .entry)) at 16 r ⌝ }

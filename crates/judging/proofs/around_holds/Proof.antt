@@ -18,11 +18,17 @@ both-requires c κs = search needs
 both-requires-2 : tie.Need-both-requires-2
 both-requires-2 c κs = search needs
 
+indices-requires : tie.Need-indices-requires
+indices-requires c κs = search needs
+
 both-requires-3 : tie.Need-both-requires-3
 both-requires-3 c κs = search needs
 
+both-requires-4 : tie.Need-both-requires-4
+both-requires-4 c κs = search needs
+
 returns : tie.Need-returns
-returns c = rw (c .both3 .ensures, c .before .both2 .ensures, c .before .before .both .ensures, c .before .before .before .names-hold .ensures, c .before .before .before .before .is-utf8-at .ensures, c .before .before .before .before .before .outside-lies .ensures)
+returns c = rw (c .both4 .ensures, c .before .both3 .ensures, c .before .before .indices .ensures, c .before .before .before .both2 .ensures, c .before .before .before .before .both .ensures, c .before .before .before .before .before .names-hold .ensures, c .before .before .before .before .before .before .is-utf8-at .ensures, c .before .before .before .before .before .before .before .outside-lies .ensures)
 
 pub around-holds-spec : {M : Type 1} → statement M
-around-holds-spec = tie.close (tie.spec outside-lies-requires is-utf8-at-requires names-hold-requires both-requires both-requires-2 both-requires-3 returns)
+around-holds-spec = tie.close (tie.spec outside-lies-requires is-utf8-at-requires names-hold-requires both-requires both-requires-2 indices-requires both-requires-3 both-requires-4 returns)

@@ -3,11 +3,11 @@ use borrow.Author.Needs.{needs}
 use Rattle.judging.proofs.numbers_fit.Statement.{statement}
 use Rattle.judging.proofs.numbers_fit.Tie as tie
 
-sound-switches-requires : tie.Need-sound-switches-requires
-sound-switches-requires c κs = search needs
+switches-keep-requires : tie.Need-switches-keep-requires
+switches-keep-requires c κs = search needs
 
-sound-callables-requires : tie.Need-sound-callables-requires
-sound-callables-requires c κs = search needs
+callables-keep-requires : tie.Need-callables-keep-requires
+callables-keep-requires c κs = search needs
 
 both-requires : tie.Need-both-requires
 both-requires c κs = search needs
@@ -22,14 +22,14 @@ both-requires-3 : tie.Need-both-requires-3
 both-requires-3 c κs = search needs
 
 returns : tie.Need-returns
-returns c = rw (c .both3 .ensures, c .before .both2 .ensures, c .before .before .sound-front .ensures, c .before .before .before .both .ensures, c .before .before .before .before .sound-callables .ensures, c .before .before .before .before .before .sound-switches .ensures)
+returns c = rw (c .both3 .ensures, c .before .both2 .ensures, c .before .before .sound-front .ensures, c .before .before .before .both .ensures, c .before .before .before .before .callables-keep .ensures, c .before .before .before .before .before .switches-keep .ensures)
 
 pub numbers-fit-spec : {M : Type 1} → statement M
 numbers-fit-spec =
     tie.close
     (tie.spec
-    sound-switches-requires
-    sound-callables-requires
+    switches-keep-requires
+    callables-keep-requires
     both-requires
     sound-front-requires
     both-requires-2

@@ -6,15 +6,15 @@ use Rattle.judging.proofs.spans_lie.Tie as tie
 outside-lies-requires : tie.Need-outside-lies-requires
 outside-lies-requires c κs = search needs
 
-texts-lie-requires : tie.Need-texts-lie-requires
-texts-lie-requires c κs = search needs
+texts-keep-requires : tie.Need-texts-keep-requires
+texts-keep-requires c κs = search needs
 
 both-requires : tie.Need-both-requires
 both-requires c κs = search needs
 
 returns : tie.Need-returns
-returns c = rw (c .both .ensures, c .before .texts-lie .ensures, c .before .before .outside-lies .ensures)
+returns c = rw (c .both .ensures, c .before .texts-keep .ensures, c .before .before .outside-lies .ensures)
 
 pub spans-lie-spec : {M : Type 1} → statement M
 spans-lie-spec =
-    tie.close (tie.spec outside-lies-requires texts-lie-requires both-requires returns)
+    tie.close (tie.spec outside-lies-requires texts-keep-requires both-requires returns)

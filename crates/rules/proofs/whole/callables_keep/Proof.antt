@@ -1,7 +1,7 @@
 -- Each test in its place.
 use borrow.Author.Needs.{needs}
-use Rattle.rules.proofs.whole.sound_callables.Statement.{statement}
-use Rattle.rules.proofs.whole.sound_callables.Tie as tie
+use Rattle.rules.proofs.whole.callables_keep.Statement.{statement}
+use Rattle.rules.proofs.whole.callables_keep.Tie as tie
 
 customs-requires : tie.Need-customs-requires
 customs-requires c κs = search needs
@@ -36,8 +36,8 @@ returns c =
       c .before .before .before .before .before .before .customs .ensures,
     )
 
-pub sound-callables-spec : {M : Type 1} → statement M
-sound-callables-spec =
+pub callables-keep-spec : {M : Type 1} → statement M
+callables-keep-spec =
     tie.close
     (tie.spec
     customs-requires

@@ -1,7 +1,7 @@
 -- Each test in its place.
 use borrow.Author.Needs.{needs}
-use Rattle.rules.proofs.whole.texts_are_utf8.Statement.{statement}
-use Rattle.rules.proofs.whole.texts_are_utf8.Tie as tie
+use Rattle.rules.proofs.whole.texts_keep.Statement.{statement}
+use Rattle.rules.proofs.whole.texts_keep.Tie as tie
 
 constants-requires : tie.Need-constants-requires
 constants-requires c κs = search needs
@@ -36,8 +36,8 @@ returns c =
       c .before .before .before .before .before .before .constants .ensures,
     )
 
-pub texts-are-utf8-spec : {M : Type 1} → statement M
-texts-are-utf8-spec =
+pub texts-keep-spec : {M : Type 1} → statement M
+texts-keep-spec =
     tie.close
     (tie.spec
     constants-requires

@@ -1,7 +1,7 @@
 -- Each test in its place.
 use borrow.Author.Needs.{needs}
-use Rattle.rules.proofs.whole.sound_switches.Statement.{statement}
-use Rattle.rules.proofs.whole.sound_switches.Tie as tie
+use Rattle.rules.proofs.whole.switches_keep.Statement.{statement}
+use Rattle.rules.proofs.whole.switches_keep.Tie as tie
 
 cases-requires : tie.Need-cases-requires
 cases-requires c κs = search needs
@@ -28,8 +28,8 @@ returns c =
       c .before .before .before .before .cases .ensures,
     )
 
-pub sound-switches-spec : {M : Type 1} → statement M
-sound-switches-spec =
+pub switches-keep-spec : {M : Type 1} → statement M
+switches-keep-spec =
     tie.close
     (tie.spec
     cases-requires
