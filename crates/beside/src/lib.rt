@@ -1,3 +1,4 @@
+#![tactic(auto)]
 // What rust/ holds beside the Rust original, as C functions: the numbers that the face (the crate `grain`) has no need of.
 //
 // A read answers 0, or the refusal's number in document 01's table, and leaves what it read in the places lent to it: where

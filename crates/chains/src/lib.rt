@@ -1,3 +1,4 @@
+#![tactic(auto)]
 // Chains and their steps (section 6 of document 01; get_chain of format/read.rs).
 ghost use Rattle.std.specs.Prelude.{◌/◌, length};
 ghost use Rattle.tables.specs.Table.{Left, LeftBoth, records, nested, count_items};

@@ -1,3 +1,4 @@
+#![tactic(auto)]
 // The constants of an artifact: a tree that is read into one table, each constant before its items (get_constant of
 // format/read.rs, where the tree is built of values).
 ghost use mathlib.Core.List.{foldl};

@@ -1,3 +1,4 @@
+#![tactic(auto)]
 // The cursor that holds its slice (`Cursor` of format/mod.rs), after the core. Each read takes it apart and leaves the work to
 // a function on the slice and the place, which calls the by-value core. A read moves nothing: `moved` takes the next place.
 ghost use Rattle.std.specs.Prelude.{◌≡◌, length, leb};

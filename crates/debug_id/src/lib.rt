@@ -1,3 +1,4 @@
+#![tactic(auto)]
 // The debug id of a program's tables: 128 bits, held in two halves of 64, into which every byte is mixed in turn.
 ghost use Rattle.std.specs.Prelude.{◌≡◌, ◌+◌, ◌*◌, ◌/◌, ◌%◌, ◌^◌};
 ghost use Rattle.debug_id.specs.DebugId.{debug_id, mixed, mixed_all, number_of};

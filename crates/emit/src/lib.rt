@@ -1,3 +1,4 @@
+#![tactic(auto)]
 // Records, and tables of them, as bytes in a lent output: each function puts what written/specs/Put.antt says of its record, from a place
 // on, and answers the place behind (specs/Puts.antt). That there is room was counted before (crate sizes).
 

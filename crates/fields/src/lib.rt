@@ -1,3 +1,4 @@
+#![tactic(auto)]
 // The fields that several sections share: bytes, runs of bytes, strings, name indices, positions and chunks
 // (`take` and `str` of `Cursor` in format/mod.rs; get_position and get_chunk of format/read.rs).
 ghost use Rattle.std.specs.Prelude.{◌≡◌};

@@ -1,3 +1,4 @@
+#![tactic(auto)]
 // What an artifact is made of (format/mod.rs): the magic, the version, each tag named once, the kinds of index, and the records.
 // specs/File.antt is the definition of the file.
 

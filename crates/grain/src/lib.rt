@@ -1,3 +1,4 @@
+#![tactic(auto)]
 // The face: what C and Rust call, and nothing else. include/grain.h says the same in C.
 //
 // A function answers 0, or the refusal's number in document 01's table, unless it says otherwise; what else it tells it leaves

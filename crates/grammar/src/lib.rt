@@ -1,3 +1,4 @@
+#![tactic(auto)]
 // A place in the bytes and a run of them: what the definitions of specs/ and the code above share.
 // From `Cursor` of format/mod.rs; the slice stands beside it.
 ghost use Rattle.std.specs.Prelude.{◌≡◌, ◌+◌, ◌<◌, ◌^◌};

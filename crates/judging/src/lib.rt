@@ -1,3 +1,4 @@
+#![tactic(auto)]
 // The lowest rule of well-formed tables that is broken, of the ten that do not ask for the length: document 01, "Well-formed tables,
 // and writing". Each test stands on those before it: rows that are not there are not looked at.
 ghost use Rattle.std.specs.Prelude.{◌≡◌, true, ◌&&◌, ◌*◌, ◌≤◌, length, take, eqb};

@@ -1,3 +1,4 @@
+#![tactic(auto)]
 // Position tables: from an instruction's address back to a line and a column (pos/mod.rs).
 ghost use Rattle.std.specs.Prelude.{◌≡◌, ◌-◌, ◌≤◌, length};
 ghost use Rattle.position_table.specs.Encode.{sites_of, encoded, encoded_bytes};

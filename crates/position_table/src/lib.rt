@@ -1,3 +1,4 @@
+#![tactic(auto)]
 // What is said of a position table: its entries, and what is answered when one is checked, counted, looked up or encoded. There is no
 // code here: specs/Table.antt and specs/Encode.antt are the definition of position tables, and `pos` has the functions.
 use refusal::Refusal;

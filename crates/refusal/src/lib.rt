@@ -1,3 +1,4 @@
+#![tactic(auto)]
 // Why something was refused: document 01's table, a variant for each row, under its name there and in its order.
 // From `ReadError` of format/mod.rs and `Error` of pos/mod.rs, with the rows that document 01 adds.
 ghost use Rattle.std.specs.Prelude.{◌≡◌};

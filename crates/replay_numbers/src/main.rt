@@ -1,3 +1,4 @@
+#![tactic(auto)]
 // Gives a stored list of cases to the number reads, to put and to the UTF-8 check, and writes an answer for each.
 //
 // A case is a line: a word, and what it is given, bytes in hexadecimal or a decimal number. For no bytes the word stands alone.

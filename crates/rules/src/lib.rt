@@ -1,3 +1,4 @@
+#![tactic(auto)]
 // The rules of well-formed tables as tests (document 01, "Well-formed tables, and writing"; specs/Rules.antt of model).
 
 pub mod counts;

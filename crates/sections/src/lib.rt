@@ -1,3 +1,4 @@
+#![tactic(auto)]
 // The header, the names, the sections whose records stand in one table, and the position table.
 
 pub mod assigns;

@@ -1,3 +1,4 @@
+#![tactic(auto)]
 // Switches, their cases and their ranges (section 7 of document 01; get_switches of format/read.rs).
 ghost use Rattle.std.specs.Prelude.{◌/◌, length};
 ghost use Rattle.tables.specs.Table.{nested};

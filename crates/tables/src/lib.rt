@@ -1,3 +1,4 @@
+#![tactic(auto)]
 // Lent tables of words: cleared, and filled a row at a time.
 ghost use Rattle.std.specs.Prelude.{◌≡◌, ◌+◌, ◌*◌, ◌≤◌, ◌<◌, length, replicate};
 ghost use Rattle.std.proofs.lemmas.List.Edits.{sets};

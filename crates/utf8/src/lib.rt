@@ -1,3 +1,4 @@
+#![tactic(auto)]
 // The check of RFC 3629, section 4: whether bytes are UTF-8, in one pass.
 //
 // Runs of ASCII are skipped in blocks. Any other text goes through a machine, whose state says what the

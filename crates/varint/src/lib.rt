@@ -1,3 +1,4 @@
+#![tactic(auto)]
 // LEB128, the encoding everything in a Rhai Grain artifact is counted in (pos/varint.rs, and the number reads of
 // `Cursor` in format/mod.rs). A read takes the bytes and a place and answers the next place; a refused one moves nothing.
 ghost use Rattle.std.specs.Prelude.{◌≡◌, ◌+◌, ◌-◌, ◌*◌, ◌%◌, ◌^◌, ◌<◌, ◌≤◌, length};
