@@ -4,7 +4,7 @@ use lib.Bits.{bit_and, bit_or, and_mask, or_shifted_r}
 use borrow.Author.Tests.{lt-leb}
 use Rattle.refusal.specs.declared.Refusal.{Refusal}
 use Rattle.grammar.specs.declared.Cursor.{Cursor}
-use Rattle.grammar.specs.Outcome.{advanced, Outcome, got, refused, after, pure, refuse, ◌>>=◌, ◌>>◌}
+use Rattle.grammar.specs.Outcome.{advanced, Outcome, got, refused, after, pure, refuse, ◌>>=◌}
 use Rattle.grammar.specs.Combinators.{taking, byte}
 use Rattle.grammar.specs.Number.{groups, number}
 use Rattle.grammar.proofs.Number.{tested, number-tested}

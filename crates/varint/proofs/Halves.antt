@@ -1,5 +1,5 @@
 -- Zigzag by complement, in the words of the machine's signed numbers.
-use Rattle.std.proofs.Common.{◌≡◌, ℕ, suc, ◌+◌, ◌-◌, ◌*◌, ◌/◌, ◌%◌, ◌^◌, ◌<◌, ◌≤◌, true, false, eqb, ℤ, pos, negsuc, nat_abs, sym, refl, ap, ◌∙◌, true≢false, zero-le, arith, w64, SFits, to_z, of_z, eq-eqb, ne_eqb, le-leb}
+use Rattle.std.proofs.Common.{◌≡◌, ℕ, suc, ◌+◌, ◌-◌, ◌*◌, ◌/◌, ◌%◌, ◌^◌, ◌<◌, true, false, ℤ, pos, negsuc, sym, refl, ◌∙◌, true≢false, zero-le, arith, w64, SFits, to_z, of_z, eq-eqb, ne_eqb, le-leb}
 use mathlib.Core.Bool.{false≢true}
 use lib.Bits.{bit_and, bit_or, and_mask, or_shifted}
 use lib.Signed.{le_z}

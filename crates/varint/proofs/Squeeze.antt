@@ -1,5 +1,5 @@
 -- One step that brings two neighbouring fields of a word together, for any width: a field of s + m bits keeps m of them.
-use Rattle.std.proofs.Common.{◌≡◌, ℕ, zero, suc, ◌+◌, ◌-◌, ◌*◌, ◌/◌, ◌%◌, ◌^◌, ◌<◌, ◌≤◌, List, [], ◌∷◌, sym, refl, ap, ◌∙◌, ap₂, le_trans, lt_of_lt_of_le, add-zero, mod-lt, mul_assoc, mul_comm, add-mul, arith, pow_pos, pow_mono, pow-add, shl_lt}
+use Rattle.std.proofs.Common.{◌≡◌, ℕ, ◌+◌, ◌-◌, ◌*◌, ◌/◌, ◌%◌, ◌^◌, ◌<◌, List, [], ◌∷◌, sym, refl, ap, ◌∙◌, ap₂, lt_of_lt_of_le, mod-lt, mul_assoc, mul_comm, add-mul, arith, pow_pos, pow_mono, pow-add, shl_lt}
 use native.Mathlib.Nat.{mul-add-mod_self_right}
 use lib.Bits.{bit_and, bit_or, and_block, or_block, and_mask, and_high, or_shifted_r}
 use lib.Arith.{digits_lt}
