@@ -1,10 +1,8 @@
 -- The prefix law of each section and of the whole file, by the laws of the combinators.
 use Prim.Native.Nat.{ℕ, zero, suc}
-use mathlib.Core.List.{List}
 use Rattle.grammar.specs.Outcome.{Parser}
-use Rattle.grammar.specs.Combinators.{Text}
 use Rattle.grammar.specs.Prefix.{Whole}
-use Rattle.grammar.proofs.Prefix.{whole-rules, whole-pure, whole-refuse, whole-bind, whole-number, whole-many, whole_room}
+use Rattle.grammar.proofs.Prefix.{whole-rules, whole-pure, whole-refuse}
 use Rattle.position_table.specs.declared.Checked.{Checked}
 use Rattle.tables.specs.Table.{records, Used, nested}
 use Rattle.format.specs.File.{string, bytes, list, name_index, position, chunk, header, names, kind, constant, constants, tokens, assign, assigns, root, step, tail, chain, chains, case, case_range, switch, switches, input, site, customs, access, this_type, function, functions, sound, positions, artifact}

@@ -9,7 +9,7 @@ use lib.Dec.{ltb}
 use borrow.Author.Tests.{le-ltb, ltb-false}
 use Rattle.refusal.specs.declared.Refusal.{Refusal}
 use Rattle.grammar.specs.declared.Cursor.{Cursor}
-use Rattle.grammar.specs.Outcome.{Outcome, got, refused}
+use Rattle.grammar.specs.Outcome.{got, refused}
 use Rattle.grammar.specs.Combinators.{if◌then◌else◌, file}
 use Rattle.grammar.proofs.Outcome.{got-ne-refused}
 use Rattle.grammar.proofs.Torn.{front-is-truncated, more-is-trailing}

@@ -1,7 +1,7 @@
 -- THE DEFINITION OF THE FILE: document 01, "The sections, in file order", section by section, and in each line by line.
 -- A parser gives everything that was read or the first refusal with its values. What it needs besides the bytes: the places
 -- of the thirteen tables and the mask of the step flags.
-use Rattle.std.specs.Prelude.{ℕ, zero, suc, ◌+◌, ◌-◌, ◌^◌, Bool, true, false, not, ◌&&◌, ◌||◌, List, [], ◌∷◌, length, leb, ltb, eqb, ℤ}
+use Rattle.std.specs.Prelude.{ℕ, zero, suc, ◌+◌, ◌-◌, ◌^◌, Bool, true, false, not, ◌&&◌, ◌||◌, List, [], ◌∷◌, length, leb, ltb, eqb}
 use Rattle.std.specs.Int.Bits.{bit_and}
 use Rattle.refusal.specs.declared.Refusal.{Refusal}
 use Rattle.refusal.specs.declared.Place.{Place}
@@ -14,8 +14,6 @@ use Rattle.position_table.specs.declared.Checked.{Checked}
 use Rattle.position_table.specs.Table.{checked}
 use Rattle.tables.specs.Table.{records, Used, nested, With, count_items}
 use Rattle.format.specs.declared.records.NameIndex.{NameIndex}
-use Rattle.format.specs.declared.records.ConstantIndex.{ConstantIndex}
-use Rattle.format.specs.declared.records.OperatorIndex.{OperatorIndex}
 use Rattle.format.specs.declared.records.OptionalPosition.{OptionalPosition}
 use Rattle.format.specs.declared.records.Chunk.{Chunk}
 use Rattle.format.specs.declared.records.Root.{Root}
@@ -24,7 +22,6 @@ use Rattle.format.specs.declared.records.Step.{Step}
 use Rattle.format.specs.declared.records.Chain.{Chain}
 use Rattle.format.specs.declared.records.Case.{Case}
 use Rattle.format.specs.declared.records.Range.{Range}
-use Rattle.format.specs.declared.records.Switch.{Switch}
 use Rattle.format.specs.declared.records.Literal.{Literal}
 use Rattle.format.specs.declared.records.Input.{Input}
 use Rattle.format.specs.declared.records.Site.{Site}

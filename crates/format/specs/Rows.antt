@@ -1,5 +1,5 @@
 -- How each record stands in its table: the words of its row. A word that a tag does not use is 0.
-use Rattle.std.specs.Prelude.{ℕ, zero, suc, ◌+◌, ◌-◌, Bool, true, false, List, [], ◌∷◌, ◌++◌, map, length, ℤ}
+use Rattle.std.specs.Prelude.{ℕ, zero, suc, ◌+◌, Bool, true, false, List, [], ◌∷◌, ◌++◌, length, ℤ}
 use Rattle.std.specs.Int.{w64}
 use Rattle.std.proofs.Common.{of_z}
 use Rattle.grammar.specs.declared.Span.{Span}
@@ -7,7 +7,6 @@ use Rattle.grammar.specs.Combinators.{Text}
 use Rattle.tables.specs.Table.{rows, With}
 use Rattle.format.specs.declared.records.NameIndex.{NameIndex}
 use Rattle.format.specs.declared.records.OptionalPosition.{OptionalPosition}
-use Rattle.format.specs.declared.records.Chunk.{Chunk}
 use Rattle.format.specs.declared.records.Root.{Root}
 use Rattle.format.specs.declared.records.Tail.{Tail}
 use Rattle.format.specs.declared.records.Step.{Step}

@@ -1,8 +1,8 @@
 -- The loop that reads the records of a list into one table, for any parser, row and width.
-use Prim.Native.Nat.{ℕ, zero, suc, ◌+◌, ◌*◌, ◌-◌, ◌/◌, ◌≤◌, ◌<◌}
+use Prim.Native.Nat.{ℕ, suc, ◌+◌, ◌*◌, ◌-◌, ◌≤◌, ◌<◌}
 use mathlib.Core.Path.{◌≡◌, refl, sym, ◌∙◌, ap, subst}
 use mathlib.Core.List.{List, [], ◌∷◌, ◌++◌}
-use native.Mathlib.Nat.{add-zero, add_assoc, zero-add, add-mul, one-mul}
+use native.Mathlib.Nat.{add-zero, add-mul, one-mul}
 use native.Mathlib.Omega.{arith}
 use lib.ListN.{length, length-append}
 use lib.Seq.{sets, length-sets}
@@ -12,7 +12,7 @@ use Rattle.grammar.specs.declared.Cursor.{Cursor}
 use Rattle.grammar.specs.Outcome.{Outcome, got, refused, Parser, pure, refuse, ◌>>=◌, ◌>>◌}
 use Rattle.grammar.specs.Combinators.{check, room, many}
 use Rattle.tables.specs.declared.Listed.{Listed}
-use Rattle.tables.specs.Table.{rows, listed_is, used_behind, Left, records}
+use Rattle.tables.specs.Table.{Left, records}
 use Rattle.tables.proofs.Listing.{Listing, listing_none, listing-more, listing-refused, listing-left, listing-done, Stored, stored-none, stored_more}
 
 -- a record behind the test for its place

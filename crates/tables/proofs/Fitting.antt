@@ -1,6 +1,6 @@
 -- What was got fits its table: the definition refuses a record for which there is no place.
 use Prim.Native.Nat.{ℕ, zero, suc, ◌+◌, ◌*◌, ◌/◌, ◌≤◌, ◌<◌}
-use mathlib.Core.Path.{◌≡◌, refl, sym, ◌∙◌, ap, subst}
+use mathlib.Core.Path.{◌≡◌, refl, sym, ◌∙◌}
 use mathlib.Core.Bool.{Bool, true, false}
 use mathlib.Core.List.{List, [], ◌∷◌, foldl}
 use native.Mathlib.Nat.{le_trans, mul-le-mul_right, div-mul-le_self}
@@ -10,9 +10,9 @@ use lib.Dec.{ltb}
 use borrow.Author.Tests.{ltb-true}
 use Rattle.refusal.specs.declared.Refusal.{Refusal}
 use Rattle.grammar.specs.declared.Cursor.{Cursor}
-use Rattle.grammar.specs.Outcome.{Outcome, got, refused, Parser, after, pure, refuse, ◌>>=◌, ◌>>◌}
+use Rattle.grammar.specs.Outcome.{got, Parser, after, pure, refuse, ◌>>=◌, ◌>>◌}
 use Rattle.grammar.specs.Combinators.{check, room, many}
-use Rattle.grammar.proofs.Outcome.{got-ne-refused, got-value, Twice, bind-got}
+use Rattle.grammar.proofs.Outcome.{got-ne-refused, got-value, bind-got}
 use Rattle.tables.specs.Table.{Used, behind_one, nested, records}
 
 -- what each record keeps of the places used, a list keeps

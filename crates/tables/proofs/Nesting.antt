@@ -1,5 +1,5 @@
 -- The loop that reads records with items into their table, for any parser, row and width; the items' tables are kept beside it by `Stored`.
-use Prim.Native.Nat.{ℕ, zero, suc, ◌+◌, ◌*◌, ◌-◌, ◌≤◌, ◌<◌}
+use Prim.Native.Nat.{ℕ, suc, ◌+◌, ◌*◌, ◌-◌, ◌≤◌, ◌<◌}
 use mathlib.Core.Path.{◌≡◌, refl, sym, ◌∙◌, ap, subst}
 use mathlib.Core.List.{List, [], ◌∷◌, ◌++◌, foldl, foldl-append}
 use native.Mathlib.Nat.{zero-add, add-mul, one-mul}
@@ -8,9 +8,9 @@ use lib.ListN.{length, length-append}
 use lib.Seq.{sets, length-sets}
 use Rattle.refusal.specs.declared.Refusal.{Refusal}
 use Rattle.grammar.specs.declared.Cursor.{Cursor}
-use Rattle.grammar.specs.Outcome.{Outcome, got, refused, Parser, ◌>>=◌, ◌>>◌}
-use Rattle.grammar.specs.Combinators.{room, many}
-use Rattle.tables.specs.Table.{rows, Used, behind_one, nested}
+use Rattle.grammar.specs.Outcome.{Outcome, got, refused, Parser, ◌>>◌}
+use Rattle.grammar.specs.Combinators.{room}
+use Rattle.tables.specs.Table.{rows, behind_one, nested}
 use Rattle.tables.proofs.Listing.{Listing, listing_none, listing-more, listing-refused, listing-left, listing-done, Stored, stored-none, stored_more}
 use Rattle.tables.proofs.Filling.{placed-full, placed-free}
 

@@ -1,13 +1,12 @@
 -- Runs of stores (`sets` of the library): one behind the other, a row in front of what stands behind it, and onto zeros.
-use Prim.Native.Nat.{ℕ, zero, suc, ◌+◌, ◌-◌, ◌≤◌, ◌<◌, zero-le}
+use Prim.Native.Nat.{ℕ, zero, suc, ◌+◌, ◌-◌, ◌≤◌, ◌<◌}
 use mathlib.Core.Path.{◌≡◌, refl, sym, ◌∙◌, ap}
-use mathlib.Core.Logic.{◌≢◌}
 use mathlib.Core.List.{List, [], ◌∷◌, ◌++◌, append-nil}
 use native.Mathlib.Nat.{add-zero, add-suc, suc-add, add_assoc, zero-add}
 use native.Mathlib.Numerals.{add-one}
 use native.Mathlib.Omega.{arith}
-use lib.ListN.{length, get_or, set, take, drop, replicate, length-append, length-set, length-replicate}
-use lib.Seq.{sets, sets-eq, length-sets, set_comm, drop-cons, take_all}
+use lib.ListN.{length, get_or, set, drop, replicate, length-replicate}
+use lib.Seq.{sets, sets-eq, set_comm, drop-cons, take_all}
 use Rattle.tables.specs.Table.{filled, front}
 
 -- side by side is one run of both

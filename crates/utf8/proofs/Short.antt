@@ -1,7 +1,7 @@
 -- Short text: blocks that reach its front and its end cover it, and text that is covered below 128 is UTF-8; a part that is cut where
 -- the bytes end. Assumes nothing.
-use mathlib.Core.Path.{◌≡◌, sym, ap, ◌∙◌}
-use mathlib.Core.Bool.{Bool, true}
+use mathlib.Core.Path.{◌≡◌, sym, ◌∙◌}
+use mathlib.Core.Bool.{true}
 use mathlib.Core.List.{List}
 use Prim.Native.Nat.{ℕ, ◌+◌, ◌-◌, ◌≤◌, ◌<◌, ◌/◌, min}
 use native.Mathlib.Decide.{dec_lt}
@@ -13,7 +13,7 @@ use lib.Seq.{get_or-take, get_or-drop, take_all, take-nil}
 use lib.Dec.{ltb}
 use borrow.Author.Tests.{ltb-true}
 use Rattle.utf8.specs.Check.{is_utf8}
-use Rattle.utf8.specs.Machine.{Covers, Screens, Passed, Sees}
+use Rattle.utf8.specs.Machine.{Covers, Screens, Sees}
 use Rattle.utf8.proofs.Laws.{nothing-is-text}
 use Rattle.utf8.proofs.Ascii.{or_left, or_right, block-passed, all-passed}
 

@@ -1,0 +1,11 @@
+-- `utf8::past_by_1` meets its contract. The loop's invariant is the contract, at the place that is reached. Assumes nothing.
+use Prim.Native.Nat.{◌-◌}
+use lib.ListN.{length}
+use Rattle.utf8.specs.Machine.{Passed}
+use Rattle.utf8.proofs.past_by_1.Given as goal
+
+abbrev pub invariant-loop-at : goal.invariant-loop-at
+invariant-loop-at l = Passed l.bytes l.from l.at
+
+abbrev pub decreases-loop-at : goal.decreases-loop-at
+decreases-loop-at l = length l.bytes - l.at
