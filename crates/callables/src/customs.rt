@@ -12,14 +12,14 @@ use refusal::Refusal;
 use tables::{Listed, Nested};
 use varint::{ReadIndex, ReadNumber};
 
-#[derive(Drop)]
+#[derive(Clone, Copy)]
 pub enum ReadInput {
     Got { input: Input, next: Cursor },
     Refused(Refusal),
 }
 
 // A site, and the places used of the inputs' table behind it.
-#[derive(Drop)]
+#[derive(Clone, Copy)]
 pub enum ReadSite {
     Got {
         site: Site,

@@ -12,20 +12,20 @@ use refusal::Refusal;
 use tables::{Listed, Nested};
 use varint::ReadNumber;
 
-#[derive(Drop)]
+#[derive(Clone, Copy)]
 pub enum ReadAccess {
     Got { access: Access, next: Cursor },
     Refused(Refusal),
 }
 
-#[derive(Drop)]
+#[derive(Clone, Copy)]
 pub enum ReadThisType {
     Got { this: ThisType, next: Cursor },
     Refused(Refusal),
 }
 
 // A function, and the places used of the parameters' table behind it.
-#[derive(Drop)]
+#[derive(Clone, Copy)]
 pub enum ReadFunction {
     Got {
         function: Function,

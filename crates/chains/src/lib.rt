@@ -21,7 +21,7 @@ pub mod steps;
 pub mod tails;
 
 // A chain whose steps stand in their table: the places used behind them, and the next place in the file.
-#[derive(Drop)]
+#[derive(Clone, Copy)]
 pub enum ReadChain {
     Got {
         chain: Chain,

@@ -10,7 +10,7 @@ use grammar::Cursor;
 use refusal::{Place, Refusal};
 use varint::ReadSmall;
 
-#[derive(Drop)]
+#[derive(Clone, Copy)]
 pub enum ReadRoot {
     Got { root: Root, next: Cursor },
     Refused(Refusal),

@@ -10,7 +10,7 @@ use grammar::Cursor;
 use refusal::{Place, Refusal};
 use varint::ReadSmall;
 
-#[derive(Drop)]
+#[derive(Clone, Copy)]
 pub enum ReadStep {
     Got { step: Step, next: Cursor },
     Refused(Refusal),

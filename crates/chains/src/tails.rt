@@ -10,7 +10,7 @@ use grammar::Cursor;
 use refusal::{Place, Refusal};
 use varint::ReadIndex;
 
-#[derive(Drop)]
+#[derive(Clone, Copy)]
 pub enum ReadTail {
     Got { tail: Tail, next: Cursor },
     Refused(Refusal),

@@ -13,7 +13,7 @@ use varint::{ReadIndex, ReadNumber, ReadSigned};
 
 // The words of a row that are known before the items, with the items' count, and whether the items have keys and
 // a function pointer's kind follows them. Words stand before bytes, so that each is read back as it was stored.
-#[derive(Drop)]
+#[derive(Clone, Copy)]
 pub struct Head {
     pub a: u64,
     pub b: u64,
@@ -24,7 +24,7 @@ pub struct Head {
     pub pointer: bool,
 }
 
-#[derive(Drop)]
+#[derive(Clone, Copy)]
 pub enum ReadHead {
     Got { head: Head, next: Cursor },
     Refused(Refusal),

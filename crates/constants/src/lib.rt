@@ -25,7 +25,7 @@ pub mod tails;
 pub mod words;
 
 // How many top constants there are, the places of the table that all of them use, and the next place in the file.
-#[derive(Drop)]
+#[derive(Clone, Copy)]
 pub enum ReadConstants {
     Got {
         tops: usize,

@@ -13,7 +13,7 @@ use tables::Listed;
 use varint::ReadNumber;
 
 // The words a and b of a row.
-#[derive(Drop)]
+#[derive(Clone, Copy)]
 pub enum ReadTail {
     Got { a: u64, b: u64, next: Cursor },
     Refused(Refusal),

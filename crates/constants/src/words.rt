@@ -6,7 +6,7 @@ ghost use Rattle.constants.specs.Answers.{word_is};
 use grammar::Cursor;
 use refusal::Refusal;
 
-#[derive(Drop)]
+#[derive(Clone, Copy)]
 pub enum ReadWord {
     Got { value: u64, next: Cursor },
     Refused(Refusal),

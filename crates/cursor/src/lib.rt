@@ -12,7 +12,7 @@ ghost use Rattle.fields.specs.Answers.{byte_is, text_is};
 use fields::{ReadByte, ReadText};
 use varint::{ReadIndex, ReadNumber, ReadSigned, ReadSmall};
 
-#[derive(Drop)]
+#[derive(Clone, Copy)]
 pub struct Cursor<'a> {
     pub bytes: &'a [u8],
     pub pos: usize,

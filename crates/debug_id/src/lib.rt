@@ -4,7 +4,7 @@ ghost use Rattle.std.specs.Prelude.{◌≡◌, ◌+◌, ◌*◌, ◌/◌, ◌%�
 ghost use Rattle.debug_id.specs.DebugId.{debug_id, mixed, mixed_all, number_of};
 
 // The number high * 2^64 + low.
-#[derive(Drop)]
+#[derive(Clone, Copy)]
 pub struct DebugId {
     pub low: u64,
     pub high: u64,

@@ -18,7 +18,7 @@ use format::tags::{ConstantTag, Limit, PointerTag};
 use rows::row;
 
 // The place behind some constants, and the row behind all that they own.
-#[derive(Drop)]
+#[derive(Clone, Copy)]
 pub struct Behind {
     pub place: usize,
     pub next: usize,

@@ -14,25 +14,25 @@ use grammar::{Cursor, Span};
 use refusal::Refusal;
 use varint::{ReadIndex, ReadNumber, ReadSmall};
 
-#[derive(Drop)]
+#[derive(Clone, Copy)]
 pub enum ReadByte {
     Got { value: u8, next: Cursor },
     Refused(Refusal),
 }
 
-#[derive(Drop)]
+#[derive(Clone, Copy)]
 pub enum ReadText {
     Got { span: Span, next: Cursor },
     Refused(Refusal),
 }
 
-#[derive(Drop)]
+#[derive(Clone, Copy)]
 pub enum ReadName {
     Got { name: NameIndex, next: Cursor },
     Refused(Refusal),
 }
 
-#[derive(Drop)]
+#[derive(Clone, Copy)]
 pub enum ReadPosition {
     Got {
         position: OptionalPosition,
@@ -41,7 +41,7 @@ pub enum ReadPosition {
     Refused(Refusal),
 }
 
-#[derive(Drop)]
+#[derive(Clone, Copy)]
 pub enum ReadChunk {
     Got { chunk: Chunk, next: Cursor },
     Refused(Refusal),

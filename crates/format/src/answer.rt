@@ -4,7 +4,7 @@ use crate::records::Chunk;
 use grammar::Span;
 use refusal::Refusal;
 
-#[derive(Drop)]
+#[derive(Clone, Copy)]
 pub struct Artifact {
     pub header: Header,
     pub source: Span,
@@ -16,7 +16,7 @@ pub struct Artifact {
     pub used: Used,
 }
 
-#[derive(Drop)]
+#[derive(Clone, Copy)]
 pub struct Header {
     pub caps: u32,
     pub low: u64,
@@ -24,7 +24,7 @@ pub struct Header {
 }
 
 // The places used of the thirteen tables, in their order.
-#[derive(Drop)]
+#[derive(Clone, Copy)]
 pub struct Used {
     pub names: usize,
     pub constants: usize,
@@ -41,7 +41,7 @@ pub struct Used {
     pub parameters: usize,
 }
 
-#[derive(Drop)]
+#[derive(Clone, Copy)]
 pub enum Answer {
     Accepted(Artifact),
     Refused(Refusal),

@@ -3,24 +3,24 @@
 use grammar::Span;
 
 // Three kinds of index that cannot be exchanged: into the names, the top constants, the assign records.
-#[derive(Drop)]
+#[derive(Clone, Copy)]
 pub struct NameIndex(pub u32);
 
-#[derive(Drop)]
+#[derive(Clone, Copy)]
 pub struct ConstantIndex(pub u32);
 
-#[derive(Drop)]
+#[derive(Clone, Copy)]
 pub struct OperatorIndex(pub u32);
 
 // A source position, which may be missing.
-#[derive(Drop)]
+#[derive(Clone, Copy)]
 pub enum OptionalPosition {
     Absent,
     At { line: u16, column: u16 },
 }
 
 // A run of code and the slots that it needs.
-#[derive(Drop)]
+#[derive(Clone, Copy)]
 pub struct Chunk {
     pub entry: u32,
     pub end: u32,
@@ -28,7 +28,7 @@ pub struct Chunk {
 }
 
 // An operator that assigns: its two tokens and their names.
-#[derive(Drop)]
+#[derive(Clone, Copy)]
 pub struct Assign {
     pub op_assign: Span,
     pub op_assign_name: NameIndex,
@@ -36,7 +36,7 @@ pub struct Assign {
     pub op_name: NameIndex,
 }
 
-#[derive(Drop)]
+#[derive(Clone, Copy)]
 pub enum Root {
     Local {
         slot: u16,
@@ -52,14 +52,14 @@ pub enum Root {
     },
 }
 
-#[derive(Drop)]
+#[derive(Clone, Copy)]
 pub enum Tail {
     Read,
     Assign,
     AssignOp { op: OperatorIndex },
 }
 
-#[derive(Drop)]
+#[derive(Clone, Copy)]
 pub enum Step {
     Index {
         flags: u8,
@@ -83,7 +83,7 @@ pub enum Step {
     },
 }
 
-#[derive(Drop)]
+#[derive(Clone, Copy)]
 pub struct Chain {
     pub root: Root,
     pub operands: u16,
@@ -91,13 +91,13 @@ pub struct Chain {
     pub tail: Tail,
 }
 
-#[derive(Drop)]
+#[derive(Clone, Copy)]
 pub struct Case {
     pub blocks: u32,
     pub constant: ConstantIndex,
 }
 
-#[derive(Drop)]
+#[derive(Clone, Copy)]
 pub struct Range {
     pub from: i64,
     pub to: i64,
@@ -105,45 +105,45 @@ pub struct Range {
     pub target: u32,
 }
 
-#[derive(Drop)]
+#[derive(Clone, Copy)]
 pub struct Switch {
     pub cases: u64,
     pub ranges: u64,
     pub default: u32,
 }
 
-#[derive(Drop)]
+#[derive(Clone, Copy)]
 pub enum Literal {
     Absent,
     Present { index: u32 },
 }
 
-#[derive(Drop)]
+#[derive(Clone, Copy)]
 pub struct Input {
     pub chunk: Chunk,
     pub literal: Literal,
 }
 
-#[derive(Drop)]
+#[derive(Clone, Copy)]
 pub struct Site {
     pub key: u32,
     pub state: u32,
     pub inputs: u64,
 }
 
-#[derive(Drop)]
+#[derive(Clone, Copy)]
 pub enum Access {
     Public,
     Private,
 }
 
-#[derive(Drop)]
+#[derive(Clone, Copy)]
 pub enum ThisType {
     Untyped,
     Typed { index: u32 },
 }
 
-#[derive(Drop)]
+#[derive(Clone, Copy)]
 pub struct Function {
     pub name: NameIndex,
     pub access: Access,

@@ -1,6 +1,6 @@
 // The magic, the version and every tag, each named once. Append only: the numbering is the wire format.
 
-#[derive(Drop)]
+#[derive(Clone, Copy)]
 pub struct Header {}
 
 impl Header {
@@ -12,7 +12,7 @@ impl Header {
 }
 
 // The longest artifact that is read, in bytes.
-#[derive(Drop)]
+#[derive(Clone, Copy)]
 pub struct Limit {}
 
 impl Limit {
@@ -22,7 +22,7 @@ impl Limit {
 }
 
 // Constants.
-#[derive(Drop)]
+#[derive(Clone, Copy)]
 pub struct ConstantTag {}
 
 impl ConstantTag {
@@ -54,7 +54,7 @@ impl ConstantTag {
 }
 
 // What kind of function a function pointer names.
-#[derive(Drop)]
+#[derive(Clone, Copy)]
 pub struct PointerTag {}
 
 impl PointerTag {
@@ -64,7 +64,7 @@ impl PointerTag {
 }
 
 // Where a chain starts.
-#[derive(Drop)]
+#[derive(Clone, Copy)]
 pub struct RootTag {}
 
 impl RootTag {
@@ -78,7 +78,7 @@ impl RootTag {
 }
 
 // A chain's steps.
-#[derive(Drop)]
+#[derive(Clone, Copy)]
 pub struct StepTag {}
 
 impl StepTag {
@@ -90,7 +90,7 @@ impl StepTag {
 }
 
 // What a chain does at the end.
-#[derive(Drop)]
+#[derive(Clone, Copy)]
 pub struct TailTag {}
 
 impl TailTag {

@@ -1,19 +1,18 @@
 -- The laws of the small format, each from those of the combinators, and what the theorems say of it.
-use Prim.Native.Nat.{ℕ, zero, suc, ◌+◌, ◌^◌, ◌≤◌, ◌<◌}
+use Prim.Native.Nat.{ℕ, zero, suc, ◌+◌, ◌<◌}
 use mathlib.Core.Path.{◌≡◌, refl, sym, ◌∙◌, ap}
-use mathlib.Core.List.{List, [], ◌∷◌, ◌++◌, append-nil, map}
-use native.Mathlib.Omega.{arith}
+use mathlib.Core.List.{List, [], ◌∷◌, ◌++◌, map}
 use lib.ListN.{length, take}
 use Rattle.refusal.specs.declared.Refusal.{Refusal}
 use Rattle.refusal.specs.declared.Place.{Place}
 use Rattle.grammar.specs.declared.Cursor.{Cursor}
-use Rattle.grammar.specs.Outcome.{start, advanced, Outcome, got, refused, Parser, pure, refuse, ◌>>=◌}
+use Rattle.grammar.specs.Outcome.{start, advanced, Outcome, got, refused, pure, refuse, ◌>>=◌}
 use Rattle.grammar.specs.Combinators.{file, taking, byte, check, room, ◌⇒◌∣◌, unknown, many, put_all, Each}
-use Rattle.grammar.specs.Number.{groups, number, shortest}
+use Rattle.grammar.specs.Number.{groups, number}
 use Rattle.grammar.specs.Prefix.{Whole}
 use Rattle.grammar.specs.RoundTrip.{Gives, Read}
-use Rattle.grammar.specs.Example.{Node, leaf, branch, Tree, behind, tree, trees, put_tree, put_trees, Fit, FitAll}
-use Rattle.grammar.proofs.Prefix.{whole-rules, whole-refuse, whole-many}
+use Rattle.grammar.specs.Example.{leaf, branch, Tree, behind, tree, trees, put_tree, put_trees, Fit, FitAll}
+use Rattle.grammar.proofs.Prefix.{whole-rules, whole-refuse}
 use Rattle.grammar.proofs.Torn.{front-is-truncated, more-is-trailing}
 use Rattle.grammar.proofs.RoundTrip.{itself, gives-last, gives-room-then, gives-byte-then, gives-tag, gives-other-tag, gives-many}
 use Rattle.grammar.proofs.Number.{gives-number, gives-number-then}

@@ -1,21 +1,20 @@
 -- The prefix law of each combinator. With `whole-rules`, `search` proves it of a do-block.
-use Prim.Native.Nat.{ℕ, zero, suc, ◌+◌, ◌*◌, ◌≤◌}
-use mathlib.Core.Path.{◌≡◌, refl, sym, ◌∙◌, ap}
-use mathlib.Core.Logic.{◌⊎◌, inl, inr}
+use Prim.Native.Nat.{ℕ, zero, suc, ◌+◌, ◌≤◌}
+use mathlib.Core.Path.{◌≡◌, refl, ap}
+use mathlib.Core.Logic.{inl, inr}
 use mathlib.Core.Bool.{Bool, true, false}
-use mathlib.Core.List.{List, ◌∷◌, ◌++◌}
+use mathlib.Core.List.{List, ◌++◌}
 use native.Mathlib.Nat.{le_refl}
 use native.Mathlib.Omega.{arith}
-use lib.ListN.{length, get_or, take, drop, length-append, length-drop, get_or-append}
+use lib.ListN.{length, drop, length-append, length-drop, get_or-append}
 use lib.Seq.{drop-append-le, take-append-le}
-use lib.Dec.{leb, ltb, eqb}
-use borrow.Author.Tests.{ltb-true, lt-ltb, leb-true, le-leb}
+use lib.Dec.{ltb, eqb}
+use borrow.Author.Tests.{leb-true, le-leb}
 use Rattle.refusal.specs.declared.Refusal.{Refusal}
 use Rattle.refusal.specs.declared.Place.{Place}
 use Rattle.grammar.specs.declared.Cursor.{Cursor}
-use Rattle.grammar.specs.declared.Span.{Span}
-use Rattle.grammar.specs.Outcome.{advanced, Outcome, got, refused, Parser, after, pure, refuse, ◌>>=◌, ◌>>◌}
-use Rattle.grammar.specs.Combinators.{if◌then◌else◌, enough, taking, byte, low_first, fixed, Text, text_at, text, place, check, left, room, ◌⇒◌∣◌, unknown, many}
+use Rattle.grammar.specs.Outcome.{advanced, Outcome, got, refused, Parser, after, pure, refuse, ◌>>=◌}
+use Rattle.grammar.specs.Combinators.{if◌then◌else◌, enough, taking, byte, low_first, fixed, text_at, text, place, check, left, room, ◌⇒◌∣◌, unknown, many}
 use Rattle.grammar.specs.Number.{groups, number, signed}
 use Rattle.grammar.specs.Prefix.{Within, Front, Whole}
 use Rattle.grammar.proofs.Outcome.{got-ne-refused}

@@ -1,5 +1,5 @@
 -- The round-trip law of each combinator: alone, and (`..-then`) in front of the rest of a do-block.
-use Prim.Native.Nat.{ℕ, zero, suc, ◌+◌, ◌*◌, ◌/◌, ◌%◌, ◌^◌, ◌≤◌, ◌<◌}
+use Prim.Native.Nat.{ℕ, zero, suc, ◌+◌, ◌/◌, ◌%◌, ◌^◌, ◌≤◌, ◌<◌}
 use mathlib.Core.Path.{◌≡◌, refl, sym, ◌∙◌, ap}
 use mathlib.Core.Bool.{Bool, true, false}
 use mathlib.Core.List.{List, [], ◌∷◌, ◌++◌, append_assoc, append-nil, map}
@@ -7,13 +7,12 @@ use native.Mathlib.Nat.{add_assoc, add-zero, pow-succ'}
 use native.Mathlib.Omega.{arith}
 use lib.ListN.{length, get_or, take, drop, length-append, length-drop}
 use lib.Seq.{take_at, drop_at, drop-drop, get_or-drop}
-use lib.Dec.{leb, ltb, eqb}
+use lib.Dec.{eqb}
 use borrow.Author.Tests.{le-leb, lt-ltb, eq-eqb}
 use Rattle.refusal.specs.declared.Refusal.{Refusal}
 use Rattle.grammar.specs.declared.Cursor.{Cursor}
-use Rattle.grammar.specs.declared.Span.{Span}
-use Rattle.grammar.specs.Outcome.{advanced, Outcome, got, refused, Parser, after, pure, refuse, ◌>>=◌, ◌>>◌}
-use Rattle.grammar.specs.Combinators.{if◌then◌else◌, enough, taking, byte, low_first, fixed, low_bytes, Text, text_at, text, place, check, left, room, ◌⇒◌∣◌, many, put_all, EachFrom}
+use Rattle.grammar.specs.Outcome.{advanced, got, Parser, after, pure, ◌>>=◌}
+use Rattle.grammar.specs.Combinators.{taking, byte, low_first, fixed, low_bytes, Text, text, place, check, left, room, ◌⇒◌∣◌, many, put_all, EachFrom}
 use Rattle.grammar.specs.RoundTrip.{Stands, Read, Gives}
 
 -- a number means itself

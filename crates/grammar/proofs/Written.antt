@@ -1,5 +1,5 @@
 -- For any writer whose outputs a parser gives back: what was written is read back, equal outputs come only from equal values, and no output is a front of another.
-use Prim.Native.Nat.{ℕ, ◌+◌, ◌-◌, ◌≤◌, zero-le}
+use Prim.Native.Nat.{ℕ, ◌+◌, zero-le}
 use mathlib.Core.Path.{◌≡◌, refl, sym, ◌∙◌, ap, subst}
 use mathlib.Core.List.{List, [], ◌∷◌, ◌++◌, append-nil}
 use native.Mathlib.Nat.{zero-add}
@@ -7,8 +7,8 @@ use native.Mathlib.Omega.{arith}
 use lib.ListN.{length, length-append}
 use borrow.Author.Tests.{eq-eqb}
 use Rattle.grammar.specs.declared.Cursor.{Cursor}
-use Rattle.grammar.specs.Outcome.{start, advanced, Outcome, got, refused, Parser, after}
-use Rattle.grammar.specs.Combinators.{if◌then◌else◌, file}
+use Rattle.grammar.specs.Outcome.{start, advanced, Outcome, got, Parser}
+use Rattle.grammar.specs.Combinators.{file}
 use Rattle.grammar.specs.RoundTrip.{Stands, Read, Gives}
 use Rattle.grammar.proofs.Outcome.{got-value, got-next}
 

@@ -4,7 +4,7 @@ use Rattle.refusal.specs.declared.Refusal.{Refusal}
 use Rattle.refusal.specs.declared.Place.{Place}
 use Rattle.grammar.specs.declared.Cursor.{Cursor}
 use Rattle.grammar.specs.declared.Span.{Span}
-use Rattle.grammar.specs.Outcome.{start, advanced, Outcome, got, refused, Parser, after, pure, refuse, ◌>>=◌, ◌>>◌}
+use Rattle.grammar.specs.Outcome.{start, advanced, Outcome, got, refused, Parser, after, pure, refuse, ◌>>=◌}
 
 infix 5 if◌then◌else◌
 abbrev pub if◌then◌else◌ : {A : Type 0} → Bool → A → A → A

@@ -1,5 +1,5 @@
 -- Numbers in the file (document 01): how they are read, and the shortest form, which is written.
-use Rattle.std.specs.Prelude.{ℕ, zero, suc, ◌+◌, ◌*◌, ◌/◌, ◌%◌, ◌^◌, Bool, List, [], ◌∷◌, ltb, eqb, ℤ, pos, negsuc, neg_ℤ}
+use Rattle.std.specs.Prelude.{ℕ, zero, suc, ◌+◌, ◌*◌, ◌/◌, ◌%◌, ◌^◌, List, [], ◌∷◌, ltb, eqb, ℤ, pos, negsuc, neg_ℤ}
 use Rattle.refusal.specs.declared.Refusal.{Refusal}
 use Rattle.grammar.specs.Outcome.{Parser, pure, refuse, ◌>>=◌, ◌>>◌}
 use Rattle.grammar.specs.Combinators.{if◌then◌else◌, byte, check}

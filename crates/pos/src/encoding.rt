@@ -11,7 +11,7 @@ use refusal::Refusal;
 
 // What the sites seen so far come to: how many are kept, the address of the last of these, their size, and whether one
 // did not ascend, with its address.
-#[derive(Drop)]
+#[derive(Clone, Copy)]
 pub struct Measured {
     pub kept: usize,
     pub previous: u32,
@@ -21,7 +21,7 @@ pub struct Measured {
 }
 
 // Where the next site is written, and the address before it.
-#[derive(Drop)]
+#[derive(Clone, Copy)]
 pub struct Place {
     pub at: usize,
     pub previous: u32,

@@ -11,14 +11,14 @@ use refusal::{PositionsFault, Refusal};
 use varint::ReadIndex;
 
 // The address that a step reaches, or why it reaches none.
-#[derive(Drop)]
+#[derive(Clone, Copy)]
 pub enum Reached {
     At(u32),
     Refused(Refusal),
 }
 
 // An entry, and the place behind it.
-#[derive(Drop)]
+#[derive(Clone, Copy)]
 pub enum ReadSite {
     Got { site: Site, next: Cursor },
     Refused(Refusal),

@@ -6,14 +6,14 @@ ghost use Rattle.pos.specs.Skim.{none, no_site, begins, walk_at, NumberAt, Singl
 use grammar::Cursor;
 
 // A number, and how many bytes it takes; 0 bytes say that it is not short.
-#[derive(Drop)]
+#[derive(Clone, Copy)]
 pub struct Short {
     pub value: u32,
     pub size: usize,
 }
 
 // An entry of short numbers, and how many bytes it takes; 0 bytes say that it is not short.
-#[derive(Drop)]
+#[derive(Clone, Copy)]
 pub struct ShortSite {
     pub step: u32,
     pub line: u32,
@@ -23,7 +23,7 @@ pub struct ShortSite {
 
 // Where a walk through a table stands: the place, the entries left, the least step that may follow, and what the address
 // is below the walk's limit. A place of 0 says that the count was not short.
-#[derive(Drop)]
+#[derive(Clone, Copy)]
 pub struct Walk {
     pub c: Cursor,
     pub left: u32,

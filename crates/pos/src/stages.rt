@@ -10,7 +10,7 @@ use position_table::{Encoded, Site};
 use refusal::Refusal;
 
 // What the next site is for: it is measured, it is written and the answer is known, or nothing is done with it.
-#[derive(Drop)]
+#[derive(Clone, Copy)]
 pub enum Stage {
     Measuring(Measured),
     Writing { place: Place, size: usize },

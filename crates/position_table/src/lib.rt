@@ -4,33 +4,33 @@
 use refusal::Refusal;
 
 // A place in a source file, and the address that it is recorded for.
-#[derive(Drop)]
+#[derive(Clone, Copy)]
 pub struct Site {
     pub address: u32,
     pub line: u32,
     pub column: u32,
 }
 
-#[derive(Drop)]
+#[derive(Clone, Copy)]
 pub enum Checked {
     Sound,
     Refused(Refusal),
 }
 
-#[derive(Drop)]
+#[derive(Clone, Copy)]
 pub enum Counted {
     Entries(u32),
     Refused(Refusal),
 }
 
-#[derive(Drop)]
+#[derive(Clone, Copy)]
 pub enum Resolved {
     At { line: u32, column: u32 },
     Nothing,
 }
 
 // How many bytes were written, or why none was.
-#[derive(Drop)]
+#[derive(Clone, Copy)]
 pub enum Encoded {
     Done { size: usize },
     Refused(Refusal),

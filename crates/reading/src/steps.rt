@@ -32,7 +32,7 @@ use switches::Switched;
 use tables::{Listed, Nested};
 
 // Where the reader stands.
-#[derive(Drop)]
+#[derive(Clone, Copy)]
 pub enum Place {
     At(Cursor),
     Refused(Refusal),

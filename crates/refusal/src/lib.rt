@@ -5,7 +5,7 @@ ghost use Rattle.std.specs.Prelude.{◌≡◌};
 ghost use Rattle.refusal.specs.Numbers.{place_number, names_number, positions_row, row_of, row_is};
 
 // Where the byte stood that is no known tag, or the flags outside the mask.
-#[derive(Drop)]
+#[derive(Clone, Copy)]
 pub enum Place {
     Constant,
     Root,
@@ -15,7 +15,7 @@ pub enum Place {
 }
 
 // What is wrong with the names.
-#[derive(Drop)]
+#[derive(Clone, Copy)]
 pub enum NamesFault {
     Falls,
     LastEnd,
@@ -23,7 +23,7 @@ pub enum NamesFault {
 }
 
 // What is wrong with a position table.
-#[derive(Drop)]
+#[derive(Clone, Copy)]
 pub enum PositionsFault {
     Truncated,
     Overflow,
@@ -31,7 +31,7 @@ pub enum PositionsFault {
     Trailing { count: usize },
 }
 
-#[derive(Drop)]
+#[derive(Clone, Copy)]
 pub enum Refusal {
     TooLong { length: usize },
     Truncated,
@@ -53,7 +53,7 @@ pub enum Refusal {
 }
 
 // A row of the table: values not shown are 0.
-#[derive(Drop)]
+#[derive(Clone, Copy)]
 pub struct Row {
     pub number: u64,
     pub first: u64,

@@ -18,7 +18,7 @@ use varint::{ReadIndex, ReadNumber, ReadSigned, ReadSmall, Written};
 // What stands for no digit.
 const NO_DIGIT: u8 = 16;
 
-#[derive(Drop)]
+#[derive(Clone, Copy)]
 enum Parsed {
     Value(u64),
     Bad,

@@ -3,13 +3,13 @@
 use grammar::Span;
 
 // What kind of function a pointer names.
-#[derive(Drop)]
+#[derive(Clone, Copy)]
 pub enum Kind {
     Normal,
     Script { parameters: u64 },
 }
 
-#[derive(Drop)]
+#[derive(Clone, Copy)]
 pub enum Constant {
     Unit,
     Boolean { value: bool },
@@ -26,7 +26,7 @@ pub enum Constant {
 }
 
 // A constant and the key that it has if it is a map's.
-#[derive(Drop)]
+#[derive(Clone, Copy)]
 pub struct Keyed {
     pub key: Span,
     pub constant: Constant,

@@ -15,7 +15,7 @@ use format::tags::Limit;
 use rows::row;
 
 // Where a walk over some constants ends, and whether nothing is owed there.
-#[derive(Drop)]
+#[derive(Clone, Copy)]
 pub struct Walked {
     pub at: usize,
     pub even: bool,
@@ -135,7 +135,7 @@ pub fn keys(rule: u8, t: &[u64], used: usize, text: &[u8]) -> bool
 }
 
 // Where some constants of at most so many levels end.
-#[derive(Drop)]
+#[derive(Clone, Copy)]
 pub enum Reached {
     At(usize),
     TooDeep,

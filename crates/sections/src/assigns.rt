@@ -12,7 +12,7 @@ use refusal::Refusal;
 use tables::Listed;
 use varint::ReadNumber;
 
-#[derive(Drop)]
+#[derive(Clone, Copy)]
 pub enum ReadAssign {
     Got { assign: Assign, next: Cursor },
     Refused(Refusal),

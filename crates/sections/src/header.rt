@@ -10,7 +10,7 @@ use grammar::Cursor;
 use refusal::Refusal;
 use varint::ReadNumber;
 
-#[derive(Drop)]
+#[derive(Clone, Copy)]
 pub enum ReadHeader {
     Got {
         caps: u32,

@@ -12,7 +12,7 @@ use grammar::{Cursor, Span};
 use refusal::{NamesFault, Refusal};
 use varint::{ReadIndex, ReadNumber};
 
-#[derive(Drop)]
+#[derive(Clone, Copy)]
 pub enum ReadNames {
     Got {
         used: usize,
@@ -23,13 +23,13 @@ pub enum ReadNames {
 }
 
 // What is known of the ends read so far: that none fell, and the last, or 0.
-#[derive(Drop)]
+#[derive(Clone, Copy)]
 pub struct Ends {
     pub rising: bool,
     pub last: u32,
 }
 
-#[derive(Drop)]
+#[derive(Clone, Copy)]
 pub enum ReadEnds {
     Got {
         used: usize,

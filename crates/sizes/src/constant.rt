@@ -16,7 +16,7 @@ use grammar::Span;
 use rows::row;
 
 // The place behind some constants, and the row behind all that they own.
-#[derive(Drop)]
+#[derive(Clone, Copy)]
 pub struct Reached {
     pub place: usize,
     pub next: usize,

@@ -11,7 +11,7 @@ use refusal::Refusal;
 use tables::Listed;
 use varint::{ReadIndex, ReadNumber};
 
-#[derive(Drop)]
+#[derive(Clone, Copy)]
 pub enum ReadCase {
     Got { case: Case, next: Cursor },
     Refused(Refusal),

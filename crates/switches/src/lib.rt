@@ -18,7 +18,7 @@ pub mod cases;
 pub mod ranges;
 
 // Switches that were read: the places used of the three tables, and the next place in the file.
-#[derive(Drop)]
+#[derive(Clone, Copy)]
 pub enum Switched {
     Got {
         used: usize,
@@ -30,7 +30,7 @@ pub enum Switched {
 }
 
 // A switch whose cases and ranges stand in their tables: the places used behind them, and the next place in the file.
-#[derive(Drop)]
+#[derive(Clone, Copy)]
 pub enum ReadSwitch {
     Got(Switch, usize, usize, Cursor),
     Refused(Refusal),

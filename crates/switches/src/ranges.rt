@@ -12,7 +12,7 @@ use refusal::Refusal;
 use tables::Listed;
 use varint::{ReadIndex, ReadNumber, ReadSigned};
 
-#[derive(Drop)]
+#[derive(Clone, Copy)]
 pub enum ReadRange {
     Got { range: Range, next: Cursor },
     Refused(Refusal),

@@ -8,14 +8,14 @@ use grammar::Cursor;
 use refusal::Refusal;
 
 // A list that was read: the places used behind it, and the next place in the file.
-#[derive(Drop)]
+#[derive(Clone, Copy)]
 pub enum Listed {
     Got { used: usize, next: Cursor },
     Refused(Refusal),
 }
 
 // A list whose records have items in a table of their own: the places used of both, and the next place in the file.
-#[derive(Drop)]
+#[derive(Clone, Copy)]
 pub enum Nested {
     Got {
         used: usize,

@@ -12,32 +12,32 @@ ghost use Rattle.varint.specs.Answered.{place, answered};
 use grammar::Cursor;
 use refusal::Refusal;
 
-#[derive(Drop)]
+#[derive(Clone, Copy)]
 pub enum ReadNumber {
     Got { value: u64, next: Cursor },
     Refused(Refusal),
 }
 
-#[derive(Drop)]
+#[derive(Clone, Copy)]
 pub enum ReadIndex {
     Got { value: u32, next: Cursor },
     Refused(Refusal),
 }
 
-#[derive(Drop)]
+#[derive(Clone, Copy)]
 pub enum ReadSmall {
     Got { value: u16, next: Cursor },
     Refused(Refusal),
 }
 
-#[derive(Drop)]
+#[derive(Clone, Copy)]
 pub enum ReadSigned {
     Got { value: i64, next: Cursor },
     Refused(Refusal),
 }
 
 // What put did: the bytes written, or why none was.
-#[derive(Drop)]
+#[derive(Clone, Copy)]
 pub enum Written {
     Done { size: usize },
     Refused(Refusal),
@@ -59,7 +59,7 @@ fn joined(value: u64, byte: u8, k: usize) -> u64
 }
 
 // A number's groups as read: of a refused one no byte is taken.
-#[derive(Drop)]
+#[derive(Clone, Copy)]
 struct Number {
     value: u64,
     taken: usize,
