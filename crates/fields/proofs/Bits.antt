@@ -1,6 +1,6 @@
 -- The bits of a signed number, by its size or by its complement's.
-use Prim.Native.Nat.{ℕ, suc, ◌-◌, ◌^◌, ◌<◌, zero-le}
-use mathlib.Core.Path.{◌≡◌, refl, sym, ◌∙◌, ap}
+use Prim.Native.Nat.{suc, ◌-◌, ◌^◌, ◌<◌, zero-le}
+use mathlib.Core.Path.{◌≡◌, sym, ◌∙◌, ap}
 use mathlib.Core.Bool.{true, false, true≢false, false≢true}
 use native.Mathlib.Omega.{arith}
 use lib.IntN.{ℤ, pos, negsuc, nat_abs}

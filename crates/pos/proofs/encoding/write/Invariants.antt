@@ -1,0 +1,11 @@
+-- The loop has written the sites in front (`Writing`).
+use Rattle.std.proofs.Common.{◌≡◌, ◌-◌, ◌∙◌, arith, rules}
+use Rattle.position_table.specs.Encode.{sites_of}
+use Rattle.pos.proofs.Sites.{Within, site_within, sites-drop, Writing, writing-none, writing_more, writing-all}
+use Rattle.pos.proofs.encoding.write.Given as goal
+
+abbrev pub invariant-loop-i : goal.invariant-loop-i
+invariant-loop-i l = Writing (sites_of l.addresses l.lines l.columns) l.initial.p l.initial.out l.p l.out l.i
+
+abbrev pub decreases-loop-i : goal.decreases-loop-i
+decreases-loop-i l = l.n - l.i
