@@ -4,6 +4,3 @@ pub mod Walks
 pub mod Puts
 pub mod Sites
 pub mod Staged
--- For the walks by hand: machine values, and a slice lent again for a call.
-pub mod Values
-pub mod Again

@@ -1,5 +1,5 @@
 -- One site: how many bytes it takes, and what the steps of both passes make of their state.
-use Rattle.std.proofs.Common.{◌≡◌, ℕ, zero, suc, ◌+◌, ◌-◌, ◌/◌, ◌%◌, ◌^◌, ◌<◌, ◌≤◌, Bool, true, false, not, eqb, ltb, leb, List, [], ◌∷◌, ◌++◌, length, set, sym, refl, ap, ◌∙◌, add-zero, add_assoc, add-suc, add-one, arith, length-append, eq-eqb, ne_eqb, le-leb, leb-false, leb-true}
+use Rattle.std.proofs.Common.{◌≡◌, ℕ, zero, suc, ◌+◌, ◌-◌, ◌/◌, ◌%◌, ◌<◌, ◌≤◌, Bool, true, false, not, ltb, leb, List, [], ◌∷◌, ◌++◌, length, set, sym, refl, ap, ◌∙◌, add-zero, add-suc, add-one, arith, length-append, eq-eqb, ne_eqb, le-leb, leb-false, leb-true}
 use lib.Seq.{sets, length-sets}
 use lib.Bits.{bit_or}
 use borrow.Author.Tests.{lt-leb}

@@ -1,14 +1,12 @@
 -- Numbers of one, two and three bytes, and the entries made of them, are read as the definitions read them.
-use Rattle.std.proofs.Common.{◌≡◌, ℕ, zero, suc, ◌+◌, ◌-◌, ◌*◌, ◌^◌, ◌<◌, ◌≤◌, Bool, true, false, ltb, List, length, get_or, sym, refl, ap, ◌∙◌, add-zero, add_assoc, arith, ltb-false, ltb-true, lt-ltb}
+use Rattle.std.proofs.Common.{◌≡◌, ℕ, ◌+◌, ◌-◌, ◌*◌, ◌^◌, ◌<◌, ◌≤◌, Bool, true, false, ltb, List, length, get_or, sym, refl, ap, add-zero, add_assoc, arith, ltb-false, ltb-true, lt-ltb}
 use lib.Bits.{bit_and, bit_or, or_add_and, and_le_l, and_le_r, or_lt}
 use Rattle.grammar.specs.declared.Cursor.{Cursor}
-use Rattle.grammar.specs.Outcome.{advanced, got, refused, after, pure, ◌>>=◌}
+use Rattle.grammar.specs.Outcome.{advanced, got, pure, ◌>>=◌}
 use Rattle.grammar.specs.Number.{number}
 use Rattle.grammar.proofs.Number.{number-narrow}
-use Rattle.varint.specs.Holding.{Holding}
 use Rattle.varint.proofs.Groups.{holding-none, holding-last, holding-more}
 use Rattle.pos.specs.declared.skim.Short.{Short}
-use Rattle.pos.specs.declared.skim.ShortSite.{ShortSite}
 use Rattle.position_table.specs.Table.{field}
 use Rattle.pos.specs.Steps.{placed}
 use Rattle.pos.specs.Skim.{none, no_site, NumberAt, Whole, SiteAt, Entry}

@@ -1,7 +1,7 @@
 -- Lists of sites: how three slices make one, and what the two passes come to over it.
-use Rattle.std.proofs.Common.{◌≡◌, ℕ, zero, suc, ◌+◌, ◌-◌, ◌*◌, ◌%◌, ◌^◌, ◌<◌, ◌≤◌, Bool, true, false, eqb, ltb, leb, List, [], ◌∷◌, ◌++◌, length, get_or, drop, sym, refl, ap, ◌∙◌, append_assoc, zero-le, add-zero, add_assoc, mod-eq_of_lt, zero-add, add-one, arith, length-append, length-drop, drop_of_length-le, drop-cons, ltb-false, ltb-true, le-ltb, lt-ltb, eq-eqb, ne_eqb, eqb-true, le-leb, leb-false, leb-true}
+use Rattle.std.proofs.Common.{◌≡◌, ℕ, zero, suc, ◌+◌, ◌-◌, ◌*◌, ◌%◌, ◌^◌, ◌<◌, ◌≤◌, Bool, true, false, eqb, ltb, leb, List, [], ◌∷◌, ◌++◌, length, get_or, drop, sym, refl, ap, ◌∙◌, append_assoc, zero-le, mod-eq_of_lt, zero-add, add-one, arith, length-append, drop_of_length-le, ltb-false, le-ltb, ne_eqb, eqb-true, leb-true}
 use lib.Seq.{sets, length-sets}
-use borrow.Author.Tests.{lt-leb, eqb-false}
+use borrow.Author.Tests.{eqb-false}
 use Rattle.refusal.specs.declared.Refusal.{Refusal}
 use Rattle.grammar.specs.Combinators.{if◌then◌else◌}
 use Rattle.grammar.specs.Number.{shortest}
@@ -10,7 +10,7 @@ use Rattle.position_table.specs.declared.Encoded.{Encoded}
 use Rattle.pos.specs.declared.encoding.Measured.{Measured}
 use Rattle.pos.specs.declared.encoding.Place.{Place}
 use Rattle.position_table.specs.Table.{Previous, none, earlier}
-use Rattle.position_table.specs.Encode.{sites_of, kept, Order, ascending, offence, order, entries_of, bytes_of, room_for, ordered, encoded, leaving, encoded_bytes}
+use Rattle.position_table.specs.Encode.{sites_of, kept, Order, ascending, offence, order, entries_of, bytes_of, room_for, ordered, encoded, encoded_bytes}
 use Rattle.pos.specs.Passes.{entry_of, unmeasured, falls_to, offended, grown, measured, measured_all, judged_of, place_after, bytes_after, written_all, behind_count, with_count, written_from}
 use Rattle.pos.proofs.Puts.{entry-small, short-ten, sets-append, measured-dropped, measured-broken, measured-falls, measured-grown, writes-dropped, writes-fits, unwritten, written}
 

@@ -2,7 +2,6 @@
 use Rattle.std.specs.Prelude.{◌≡◌, ℕ, ◌+◌, ◌-◌, ◌^◌, ◌<◌, ◌≤◌, Bool, true, List, length}
 use Rattle.grammar.specs.declared.Cursor.{Cursor}
 use Rattle.grammar.specs.Outcome.{start, advanced, got}
-use Rattle.position_table.specs.declared.Site.{Site}
 use Rattle.position_table.specs.declared.Checked.{Checked}
 use Rattle.position_table.specs.declared.Resolved.{Resolved}
 use Rattle.pos.specs.declared.skim.Short.{Short}

@@ -1,5 +1,4 @@
 -- Each test that says so has seen a sound table.
-use Rattle.std.proofs.Common.{rules}
 use Rattle.pos.proofs.check.Goals as goal
 
 pub returns-then-alone : goal.returns-then-alone

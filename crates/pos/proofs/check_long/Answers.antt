@@ -1,5 +1,5 @@
 -- The count is read as it stands, and a walk leaves the check behind it as it is.
-use Rattle.std.proofs.Common.{ap, ◌∙◌, arith, rules}
+use Rattle.std.proofs.Common.{ap, ◌∙◌, arith}
 use Rattle.varint.specs.Answers.{index_is}
 use Rattle.pos.proofs.Walks.{checking-begins, checked_refused, checking-runs}
 use Rattle.pos.proofs.check_long.Goals as goal

@@ -1,5 +1,5 @@
 -- Both passes over the list that the three slices make, and the answer between them.
-use Rattle.std.proofs.Common.{sym, ◌∙◌, rules}
+use Rattle.std.proofs.Common.{sym, ◌∙◌}
 use Rattle.pos.proofs.Sites.{answer-is, judged-is, left_alone, count_fits, all-bytes}
 use Rattle.pos.proofs.encode.Goals as goal
 

@@ -1,8 +1,5 @@
 -- The loop knows what the check still has to read (`Checking`), and each way out is one law of Walks.
-use Rattle.std.proofs.Common.{ap, ◌∙◌, arith, rules}
-use Rattle.pos.specs.Steps.{site_is}
 use Rattle.pos.specs.Skim.{Checking}
-use Rattle.pos.proofs.Walks.{checking-more, checking-refused, checking-ended, checking-runs}
 use Rattle.pos.proofs.entries.Given as goal
 
 abbrev pub invariant-loop-w : goal.invariant-loop-w

@@ -1,5 +1,5 @@
 -- A short count is the number that the definition reads.
-use Rattle.std.proofs.Common.{sym, ◌∙◌, arith, rules}
+use Rattle.std.proofs.Common.{sym, ◌∙◌, arith}
 use Rattle.pos.proofs.Walks.{resolving-begins}
 use Rattle.pos.proofs.resolve.Goals as goal
 

@@ -1,5 +1,5 @@
 -- The first entry is the one asked or the only one, or the walk runs from it.
-use Rattle.std.proofs.Common.{sym, ◌∙◌, zero-add, arith, rules}
+use Rattle.std.proofs.Common.{sym, ◌∙◌, zero-add, arith}
 use Rattle.pos.proofs.Walks.{step_fits_lem, seek_hit, seek-missed}
 use Rattle.pos.proofs.resolve_from.Goals as goal
 

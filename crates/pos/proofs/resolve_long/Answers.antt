@@ -1,5 +1,5 @@
 -- The count is read as it stands, and the walk begins behind it.
-use Rattle.std.proofs.Common.{sym, ap, ◌∙◌, arith, rules}
+use Rattle.std.proofs.Common.{sym, ap, ◌∙◌, arith}
 use Rattle.varint.specs.Answers.{index_is}
 use Rattle.pos.proofs.Walks.{seek-begins, resolving-begins, resolved-refused}
 use Rattle.pos.proofs.resolve_long.Goals as goal

@@ -1,5 +1,5 @@
 -- The short entry at hand is the one asked, or the walk goes on.
-use Rattle.std.proofs.Common.{◌-◌, sym, ◌∙◌, arith, rules}
+use Rattle.std.proofs.Common.{◌-◌, sym, ◌∙◌, arith}
 use Rattle.pos.proofs.Walks.{seek_hit}
 use Rattle.pos.proofs.seek.Goals as goal
 

@@ -1,7 +1,7 @@
 -- The loop knows that what is asked is found in what is left (`Seeking`), and each way out is one law of Walks.
-use Rattle.std.proofs.Common.{◌≡◌, sym, refl, ap, ◌∙◌, arith, rules}
+use Rattle.std.proofs.Common.{sym, refl, ap, ◌∙◌, arith}
 use Rattle.pos.specs.Steps.{site_is}
-use Rattle.pos.proofs.Walks.{seek-more, seek_found, seek-refused, seek-ended, Seeking, seeking-runs}
+use Rattle.pos.proofs.Walks.{seek-more, seek_found, seek-refused, seek-ended, seeking-runs}
 use Rattle.pos.proofs.seek_on.Goals as goal
 
 pub loop-w-init : goal.loop-w-init

@@ -1,7 +1,6 @@
 -- The loop has written the sites in front (`Writing`).
-use Rattle.std.proofs.Common.{◌≡◌, ◌-◌, ◌∙◌, arith, rules}
-use Rattle.position_table.specs.Encode.{sites_of}
-use Rattle.pos.proofs.Sites.{Within, site_within, sites-drop, Writing, writing-none, writing_more, writing-all}
+use Rattle.std.proofs.Common.{◌∙◌, arith}
+use Rattle.pos.proofs.Sites.{Within, site_within, sites-drop, writing-none, writing_more, writing-all}
 use Rattle.pos.proofs.encoding.write.Goals as goal
 use Rattle.pos.proofs.encoding.write.Goals.{In-loop-i}
 
@@ -43,7 +42,7 @@ loop-i-preserved c =
 
 pub shape_of-out : goal.shape_of-out
 shape_of-out c =
-    c.loop-i.invariant.same ∙ c.write_count-p.auto.1.0
+    c.loop-i.invariant.same ∙ c.write_count-p.auto.out
 
 pub returns : goal.returns
 returns c =

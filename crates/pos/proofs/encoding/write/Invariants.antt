@@ -1,7 +1,7 @@
 -- The loop has written the sites in front (`Writing`).
-use Rattle.std.proofs.Common.{◌≡◌, ◌-◌, ◌∙◌, arith, rules}
+use Rattle.std.proofs.Common.{◌-◌}
 use Rattle.position_table.specs.Encode.{sites_of}
-use Rattle.pos.proofs.Sites.{Within, site_within, sites-drop, Writing, writing-none, writing_more, writing-all}
+use Rattle.pos.proofs.Sites.{Writing}
 use Rattle.pos.proofs.encoding.write.Given as goal
 
 abbrev pub invariant-loop-i : goal.invariant-loop-i

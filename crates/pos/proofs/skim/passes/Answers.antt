@@ -1,6 +1,6 @@
 -- The walk leaves the check as it is, and nothing is left of it.
 use mathlib.Core.Bool.{false≢true}
-use Rattle.std.proofs.Common.{rules, eqb-true}
+use Rattle.std.proofs.Common.{eqb-true}
 use Rattle.pos.proofs.Walks.{single-runs, checking-sound}
 use Rattle.pos.proofs.skim.passes.Goals as goal
 

@@ -1,9 +1,9 @@
 -- The loop knows what the walk that runs has left of a check and of resolving (`Running`); an entry has one of three forms (`moves`).
-use Rattle.std.proofs.Common.{◌≡◌, ◌+◌, ◌-◌, get_or, ⊎_elim, arith, rules}
+use Rattle.std.proofs.Common.{◌+◌, get_or, arith}
 use Rattle.pos.proofs.Shorts.{plain-three, plain-four, plain-five}
-use Rattle.pos.proofs.Walks.{Running, Moves, runs-begins, running_more}
+use Rattle.pos.proofs.Walks.{Moves, runs-begins, running_more}
 use Rattle.pos.proofs.skim.run.Goals as goal
-use Rattle.pos.proofs.skim.run.Goals.{Joined-step-table-lt128}
+use Rattle.pos.proofs.skim.run.Goals.{Joined-step-table-lt128, then-step-table-lt128, else-step-table-lt128+else-rest-le3+then-step-table-lt128-2, else-step-table-lt128+else-rest-le3+else-step-table-lt128-2+else-rest-le4+else-step-table-ge128+else-table-at-lt128}
 
 pub returns-then-table-at : goal.returns-then-table-at
 returns-then-table-at c =
@@ -99,12 +99,11 @@ overflow_add-at-else-step-table-lt128-2-6 c =
 
 moves : (c : Joined-step-table-lt128) → Moves c.args.table.now c.loop-left.at (get_or c.args.table.now c.loop-left.at 0) c.if-step-table-lt128.at
 moves c =
-    ⊎_elim
-    (λ w. record { size = 3; entry = plain-three _ _ (omega (arith, c.loop-left.invariant.inside)) w.0.taken; is = w.1; inside = omega (arith, c.loop-left.invariant.inside, w.1) })
-    (⊎_elim
-    (λ w. record { size = 4; entry = plain-four _ _ (omega (arith, c.loop-left.invariant.inside, w.1.left)) w.0.left (omega (arith, c.type_inv.table (c.loop-left.at + 1))) w.4.taken; is = w.5; inside = omega (arith, c.loop-left.invariant.inside, w.1.left, w.5) })
-    (λ w. record { size = 5; entry = plain-five _ _ (omega (arith, c.loop-left.invariant.inside, w.5.left)) w.8.left w.11.left (omega (arith, c.type_inv.table (c.loop-left.at + 1))) (omega (arith, c.type_inv.table (c.loop-left.at + 2))); is = w.12; inside = omega (arith, c.loop-left.invariant.inside, w.5.left, w.12) }))
-    c.if-step-table-lt128.branch
+    elim c.if-step-table-lt128.branch [
+      then-step-table-lt128 w ↦ record { size = 3; entry = plain-three _ _ (omega arith) w.if-step-table-lt128.true; is = w.at-is; inside = omega (arith, w.at-is) }
+    | else-step-table-lt128+else-rest-le3+then-step-table-lt128-2 w ↦ record { size = 4; entry = plain-four _ _ (omega arith) w.if-step-table-lt128.false (omega (arith, c.type_inv.table (c.loop-left.at + 1))) w.if-step-table-lt128-2.true; is = w.at-is; inside = omega arith }
+    | else-step-table-lt128+else-rest-le3+else-step-table-lt128-2+else-rest-le4+else-step-table-ge128+else-table-at-lt128 w ↦ record { size = 5; entry = plain-five _ _ (omega arith) w.if-step-table-ge128.false w.if-table-at-lt128.false (omega (arith, c.type_inv.table (c.loop-left.at + 1))) (omega (arith, c.type_inv.table (c.loop-left.at + 2))); is = w.at-is; inside = omega arith }
+    ]
 
 pub loop-left-preserved : goal.loop-left-preserved
 loop-left-preserved c =

@@ -1,7 +1,5 @@
 -- The loop knows what the walk that runs has left of a check and of resolving (`Running`); an entry has one of three forms (`moves`).
-use Rattle.std.proofs.Common.{◌≡◌, ◌+◌, ◌-◌, get_or, ⊎_elim, arith, rules}
-use Rattle.pos.proofs.Shorts.{plain-three, plain-four, plain-five}
-use Rattle.pos.proofs.Walks.{Running, Moves, runs-begins, running_more}
+use Rattle.pos.proofs.Walks.{Running}
 use Rattle.pos.proofs.skim.run.Given as goal
 
 abbrev pub invariant-loop-left : goal.invariant-loop-left

@@ -1,5 +1,5 @@
 -- What was measured is judged; the other stages stay as they are.
-use Rattle.std.proofs.Common.{sym, refl, ◌∙◌, rules}
+use Rattle.std.proofs.Common.{sym, refl, ◌∙◌}
 use Rattle.pos.specs.Stages.{opened_of, opened_out}
 use Rattle.pos.proofs.stages.opened.Goals as goal
 

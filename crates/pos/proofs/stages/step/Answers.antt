@@ -1,5 +1,5 @@
 -- A stage takes a site by its own step.
-use Rattle.std.proofs.Common.{refl, rules}
+use Rattle.std.proofs.Common.{refl}
 use Rattle.pos.proofs.stages.step.Goals as goal
 
 pub returns-in-Measuring : goal.returns-in-Measuring

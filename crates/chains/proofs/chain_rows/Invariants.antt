@@ -1,0 +1,13 @@
+-- The loop has read some chains and stored their rows and their steps' (`Chaining`).
+use mathlib.Core.Path.{sym, ◌∙◌}
+use native.Mathlib.Omega.{arith}
+use borrow.Author.Rules.{rules}
+use Rattle.chains.proofs.Words.{chain-width}
+use Rattle.chains.proofs.Chaining.{Chaining, both-refused, chaining-none, chaining-full, chaining-refused, chaining-more, chaining-done}
+use Rattle.chains.proofs.chain_rows.Given as goal
+
+abbrev pub invariant-loop-left : goal.invariant-loop-left
+invariant-loop-left l = Chaining l.mask l.s l.initial.at l.initial.left l.initial.t l.t l.initial.steps l.steps l.at l.left l.used l.items
+
+abbrev pub decreases-loop-left : goal.decreases-loop-left
+decreases-loop-left l = l.left

@@ -1,0 +1,7 @@
+-- Each word of the row.
+use borrow.Author.Rules.{rules}
+use Rattle.chains.proofs.rows.method_row.Goals as goal
+
+pub returns : goal.returns
+returns c =
+    rw (c.line_word.ensures, c.column_word.ensures)

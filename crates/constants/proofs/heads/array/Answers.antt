@@ -1,0 +1,15 @@
+-- Along the path of the code.
+use Rattle.grammar.specs.Outcome.{◌>>=◌, pure}
+use Rattle.constants.specs.Parts.{headed, array_front}
+use borrow.Author.Rules.{rules}
+use Rattle.constants.proofs.heads.array.Goals as goal
+
+pub returns-in-Got : goal.returns-in-Got
+unfolding headed array_front ◌>>=◌ pure
+returns-in-Got c =
+    rw (c.uvarint.ensures, c.in-Got.is)
+
+pub returns-in-Refused : goal.returns-in-Refused
+unfolding headed array_front ◌>>=◌ pure
+returns-in-Refused c =
+    rw (c.uvarint.ensures, c.in-Refused.is)

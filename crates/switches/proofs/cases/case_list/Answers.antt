@@ -1,0 +1,16 @@
+-- A count, then the cases.
+use Rattle.grammar.specs.Outcome.{◌>>=◌}
+use Rattle.format.specs.File.{list}
+use Rattle.tables.proofs.Filling.{left-refused}
+use borrow.Author.Rules.{rules}
+use Rattle.switches.proofs.cases.case_list.Goals as goal
+
+pub returns-in-Got : goal.returns-in-Got
+unfolding list ◌>>=◌
+returns-in-Got c =
+    rw (c.uvarint.ensures, c.in-Got.is) c.case_rows.ensures
+
+pub returns-in-Refused : goal.returns-in-Refused
+unfolding list ◌>>=◌
+returns-in-Refused c =
+    left-refused (rw (c.uvarint.ensures, c.in-Refused.is))
