@@ -10,7 +10,7 @@ use lib.Dec.{eqb}
 use lib.Bits.{bit_and}
 use borrow.Author.Tests.{ltb-true, eqb-true}
 use Rattle.grammar.specs.declared.Cursor.{Cursor}
-use Rattle.grammar.specs.Outcome.{start, got, Parser, ◌>>=◌, ◌>>◌}
+use Rattle.grammar.specs.Outcome.{start, got, Parser, ◌>>=◌}
 use Rattle.grammar.specs.Combinators.{if◌then◌else◌, Text}
 use Rattle.grammar.proofs.RoundTrip.{itself}
 use Rattle.position_table.specs.declared.Checked.{Checked}

@@ -4,8 +4,8 @@ use mathlib.Core.Path.{◌≡◌, refl, sym, ◌∙◌, ap}
 use mathlib.Core.List.{List, [], ◌∷◌, map, foldl}
 use native.Mathlib.Omega.{arith}
 use lib.ListN.{length}
-use Rattle.grammar.specs.Outcome.{Parser, ◌>>=◌, ◌>>◌}
-use Rattle.grammar.specs.Combinators.{room, put_all, Each, EachFrom}
+use Rattle.grammar.specs.Outcome.{Parser, ◌>>=◌}
+use Rattle.grammar.specs.Combinators.{put_all, Each, EachFrom}
 use Rattle.grammar.specs.Number.{number}
 use Rattle.grammar.specs.RoundTrip.{Gives}
 use Rattle.grammar.proofs.RoundTrip.{itself, gives-room-then, gives-many}

@@ -1,5 +1,5 @@
 -- What stands in several sections is given back: numbers, bytes, strings, lists in tables, names, positions, chunks.
-use Prim.Native.Nat.{ℕ, ◌+◌, ◌^◌, ◌≤◌, ◌<◌}
+use Prim.Native.Nat.{ℕ, ◌^◌, ◌≤◌, ◌<◌}
 use mathlib.Core.Path.{◌≡◌, refl, ◌∙◌, ap}
 use mathlib.Core.List.{List, [], ◌++◌, append-nil}
 use native.Mathlib.Nat.{le_trans}
@@ -9,7 +9,7 @@ use lib.IntN.{ℤ, pos, negsuc}
 use mir.Syntax.{w64}
 use mir.Val.{SFits}
 use borrow.Author.Tests.{ne_eqb}
-use Rattle.grammar.specs.Outcome.{Parser, pure, ◌>>=◌, ◌>>◌}
+use Rattle.grammar.specs.Outcome.{Parser, pure, ◌>>=◌}
 use Rattle.grammar.specs.Number.{number, signed, zigzag, shortest}
 use Rattle.grammar.specs.RoundTrip.{Gives}
 use Rattle.grammar.proofs.RoundTrip.{itself, gives-pure, gives-bind, gives-last, gives-check-then, gives-text}

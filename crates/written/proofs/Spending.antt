@@ -10,7 +10,7 @@ use borrow.Author.Tests.{leb-true}
 use Rattle.refusal.specs.declared.Refusal.{Refusal}
 use Rattle.refusal.specs.declared.Place.{Place}
 use Rattle.grammar.specs.declared.Cursor.{Cursor}
-use Rattle.grammar.specs.Outcome.{advanced, got, refused, Parser, pure, refuse, ◌>>=◌, ◌>>◌}
+use Rattle.grammar.specs.Outcome.{advanced, got, refused, Parser, pure, refuse, ◌>>=◌}
 use Rattle.grammar.specs.Combinators.{if◌then◌else◌, enough, taking, byte, fixed, Text, text_at, text, place, check, left, room, ◌⇒◌∣◌, unknown, many, put_all}
 use Rattle.grammar.specs.Number.{number, signed, zigzag, shortest}
 use Rattle.grammar.proofs.Outcome.{got-ne-refused, got-value, got-next, bind-got}

@@ -6,7 +6,6 @@ use mathlib.Core.List.{List}
 use native.Mathlib.Omega.{arith}
 use lib.Dec.{eqb}
 use borrow.Author.Tests.{lt-ltb}
-use Rattle.grammar.specs.Outcome.{◌>>=◌}
 use Rattle.grammar.specs.Combinators.{if◌then◌else◌}
 use Rattle.grammar.specs.RoundTrip.{Gives}
 use Rattle.grammar.proofs.RoundTrip.{itself, gives-pure, gives-check-then, gives-place-then, gives-byte-then}
