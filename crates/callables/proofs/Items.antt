@@ -1,5 +1,5 @@
 -- Records with items: one of them behind the list of its items, and the loop over them that fills both tables.
-use Prim.Native.Nat.{ℕ, zero, suc, ◌+◌, ◌*◌, ◌-◌, ◌≤◌, ◌<◌}
+use Prim.Native.Nat.{ℕ, ◌+◌, ◌*◌, ◌-◌, ◌≤◌, ◌<◌}
 use mathlib.Core.Path.{◌≡◌, refl, sym, ◌∙◌, ap}
 use mathlib.Core.List.{List, [], ◌∷◌, ◌++◌}
 use native.Mathlib.Nat.{add-mul, mul-one}
@@ -12,10 +12,10 @@ use Rattle.grammar.specs.Outcome.{Outcome, got, refused, Parser, after, pure, �
 use Rattle.grammar.proofs.Outcome.{got-ne-refused, got-value, got-next}
 use Rattle.tables.specs.declared.Listed.{Listed}
 use Rattle.tables.specs.declared.Nested.{Nested}
-use Rattle.tables.specs.Table.{rows, used_behind, listed_is, Left, With, count_items, nested, used_both, LeftBoth}
-use Rattle.tables.proofs.Listing.{Stored, stored-none, stored_more}
+use Rattle.tables.specs.Table.{rows, used_behind, listed_is, Left, With, count_items, nested, LeftBoth}
+use Rattle.tables.proofs.Listing.{Stored, stored_more}
 use Rattle.tables.proofs.Filling.{Filling, filling-more}
-use Rattle.tables.proofs.Nesting.{length-rows, Nesting, nesting-none, nesting-full, nesting-refused, nesting-more, nesting-done}
+use Rattle.tables.proofs.Nesting.{length-rows, Nesting, nesting-none, nesting-more, nesting-done}
 use Rattle.format.specs.declared.records.Literal.{Literal}
 use Rattle.format.specs.declared.records.Input.{Input}
 use Rattle.format.specs.declared.records.Site.{Site}

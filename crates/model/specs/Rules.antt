@@ -170,9 +170,9 @@ and_then too_deep next = too_deep
 unfoldable pub within : (levels n : ℕ) → List (List ℕ) → Behind
 within zero zero rows = behind rows
 within zero (suc n) rows = too_deep
-within (suc levels) zero rows = behind rows
-within (suc levels) (suc n) [] = behind []
-within (suc levels) (suc n) (row ∷ rows) = and_then (within levels (owns row) rows) (within (suc levels) n)
+within (suc fewer) zero rows = behind rows
+within (suc fewer) (suc n) [] = behind []
+within (suc fewer) (suc n) (row ∷ rows) = and_then (within fewer (owns row) rows) (within (suc fewer) n)
 
 abbrev pub not_too_deep : Behind → Bool
 not_too_deep (behind rows) = true

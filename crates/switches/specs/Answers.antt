@@ -1,12 +1,12 @@
 -- What each answer of a read says, as an outcome of the definition of the file, and what the three tables hold.
-use Rattle.std.specs.Prelude.{ℕ, ◌+◌, ◌*◌, ◌≡◌, not, length, eqb, ℤ}
-use mathlib.Core.List.{List, foldl}
+use Rattle.std.specs.Prelude.{ℕ, ◌*◌, ◌≡◌, not, eqb, ℤ}
+use mathlib.Core.List.{List}
 use Rattle.std.proofs.lemmas.List.Edits.{sets}
 use Rattle.grammar.specs.declared.Cursor.{Cursor}
 use Rattle.grammar.specs.Outcome.{Outcome, got, refused, Parser, pure, ◌>>=◌}
 use Rattle.grammar.specs.Combinators.{byte}
 use Rattle.grammar.specs.Number.{index}
-use Rattle.tables.specs.Table.{rows, Used, behind_one, used_both}
+use Rattle.tables.specs.Table.{rows, Used, used_both}
 use Rattle.format.specs.declared.records.Case.{Case}
 use Rattle.format.specs.declared.records.Range.{Range}
 use Rattle.format.specs.declared.records.Switch.{Switch}

@@ -3,7 +3,6 @@ use Rattle.grammar.specs.Outcome.{◌>>=◌}
 use Rattle.format.specs.File.{chain}
 use Rattle.chains.specs.Answers.{chain_behind}
 use Rattle.chains.proofs.Standing.{one-refused}
-use borrow.Author.Rules.{rules}
 use Rattle.chains.proofs.chain.Goals as goal
 
 pub returns-in-Got-small : goal.returns-in-Got-small

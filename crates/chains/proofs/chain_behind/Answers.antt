@@ -2,7 +2,6 @@
 use native.Mathlib.Omega.{arith}
 use Rattle.tables.proofs.Answers.{left-got, left-no-more}
 use Rattle.chains.proofs.Standing.{one-refused, one-got, one-no-tail, one-no-steps}
-use borrow.Author.Rules.{rules}
 use Rattle.chains.proofs.chain_behind.Goals as goal
 
 pub overflow_sub-result : goal.overflow_sub-result

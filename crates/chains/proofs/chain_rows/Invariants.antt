@@ -1,9 +1,5 @@
 -- The loop has read some chains and stored their rows and their steps' (`Chaining`).
-use mathlib.Core.Path.{sym, ◌∙◌}
-use native.Mathlib.Omega.{arith}
-use borrow.Author.Rules.{rules}
-use Rattle.chains.proofs.Words.{chain-width}
-use Rattle.chains.proofs.Chaining.{Chaining, both-refused, chaining-none, chaining-full, chaining-refused, chaining-more, chaining-done}
+use Rattle.chains.proofs.Chaining.{Chaining}
 use Rattle.chains.proofs.chain_rows.Given as goal
 
 abbrev pub invariant-loop-left : goal.invariant-loop-left

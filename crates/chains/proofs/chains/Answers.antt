@@ -2,7 +2,6 @@
 use Rattle.grammar.specs.Outcome.{◌>>=◌}
 use Rattle.format.specs.File.{chains}
 use Rattle.chains.proofs.Chaining.{both-refused}
-use borrow.Author.Rules.{rules}
 use Rattle.chains.proofs.chains.Goals as goal
 
 pub returns-in-Got : goal.returns-in-Got

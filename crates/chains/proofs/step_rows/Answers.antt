@@ -1,12 +1,7 @@
 -- The loop has read some steps and stored their rows (`Filling`).
-use Prim.Native.Nat.{◌/◌}
 use mathlib.Core.Path.{sym, ◌∙◌}
 use native.Mathlib.Omega.{arith}
-use borrow.Author.Rules.{rules}
-use lib.ListN.{length}
-use Rattle.tables.proofs.Filling.{Filling, filling-none, filling-full, filling-refused, filling-more, filling-done, left-refused}
-use Rattle.format.specs.File.{step}
-use Rattle.format.specs.Rows.{step_row}
+use Rattle.tables.proofs.Filling.{filling-none, filling-full, filling-refused, filling-more, filling-done, left-refused}
 use Rattle.chains.proofs.Words.{step-width}
 use Rattle.chains.proofs.step_rows.Goals as goal
 

@@ -1,6 +1,5 @@
 -- The count, and then the top constants as a list without keys.
 use Rattle.constants.proofs.Tops.{no-count, tops-refused, tops-got}
-use borrow.Author.Rules.{rules}
 use Rattle.constants.proofs.constants.Goals as goal
 
 pub returns-in-Got-items : goal.returns-in-Got-items

@@ -1,7 +1,6 @@
 -- A key is a string, and none is nowhere.
 use Rattle.grammar.specs.Outcome.{pure}
 use Rattle.constants.specs.Parts.{item_key}
-use borrow.Author.Rules.{rules}
 use Rattle.constants.proofs.item_key.Goals as goal
 
 pub returns-then-keyed : goal.returns-then-keyed

@@ -2,7 +2,6 @@
 use native.Mathlib.Omega.{arith}
 use Rattle.tables.proofs.Answers.{left-got, left-no-more}
 use Rattle.switches.proofs.Standing.{switch-refused, switch-got, switch-no-default, switch-no-ranges, switch-no-cases}
-use borrow.Author.Rules.{rules}
 use Rattle.switches.proofs.switch.Goals as goal
 
 pub overflow_sub-whole : goal.overflow_sub-whole

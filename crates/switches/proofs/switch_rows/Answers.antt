@@ -1,8 +1,7 @@
 -- The loop has read some switches and stored their rows, their cases' and their ranges' (`Switching`).
 use mathlib.Core.Path.{◌∙◌}
 use native.Mathlib.Omega.{arith}
-use borrow.Author.Rules.{rules}
-use Rattle.switches.proofs.Switching.{Switching, all-refused, switching-none, switching-full, switching-refused, switching-more, switching-done}
+use Rattle.switches.proofs.Switching.{all-refused, switching-none, switching-full, switching-refused, switching-more, switching-done}
 use Rattle.switches.proofs.switch_rows.Goals as goal
 
 pub loop-left-init : goal.loop-left-init

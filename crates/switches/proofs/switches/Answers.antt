@@ -2,7 +2,6 @@
 use Rattle.grammar.specs.Outcome.{◌>>=◌}
 use Rattle.format.specs.File.{switches}
 use Rattle.switches.proofs.Switching.{all-refused}
-use borrow.Author.Rules.{rules}
 use Rattle.switches.proofs.switches.Goals as goal
 
 pub returns-in-Got : goal.returns-in-Got

@@ -1,7 +1,6 @@
 -- Each way of the reads is one line of the definition.
 use Rattle.grammar.specs.Outcome.{◌>>=◌, pure}
 use Rattle.format.specs.File.{input}
-use borrow.Author.Rules.{rules}
 use Rattle.callables.proofs.customs.input.Goals as goal
 
 pub returns-in-Got-index : goal.returns-in-Got-index

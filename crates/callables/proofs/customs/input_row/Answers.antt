@@ -1,5 +1,4 @@
 -- By the literal.
-use borrow.Author.Rules.{rules}
 use Rattle.callables.proofs.customs.input_row.Goals as goal
 
 pub returns-in-Absent : goal.returns-in-Absent

@@ -1,13 +1,9 @@
 -- The loop has read some records and stored their rows (`Filling`).
 use Prim.Native.Nat.{◌/◌}
-use mathlib.Core.Path.{◌∙◌}
-use native.Mathlib.Omega.{arith}
-use borrow.Author.Rules.{rules}
 use lib.ListN.{length}
-use Rattle.tables.proofs.Filling.{Filling, filling-none, filling-full, filling-refused, filling-more, filling-done, left-refused}
+use Rattle.tables.proofs.Filling.{Filling}
 use Rattle.format.specs.File.{input}
 use Rattle.format.specs.Rows.{input_row}
-use Rattle.callables.proofs.Items.{input-wide}
 use Rattle.callables.proofs.customs.input_rows.Given as goal
 
 abbrev pub invariant-loop-left : goal.invariant-loop-left

@@ -3,7 +3,6 @@ use Rattle.grammar.specs.Outcome.{◌>>=◌, pure}
 use Rattle.format.specs.File.{site}
 use Rattle.callables.specs.Items.{site_inputs}
 use Rattle.callables.proofs.Items.{one-refused}
-use borrow.Author.Rules.{rules}
 use Rattle.callables.proofs.customs.site.Goals as goal
 
 pub returns-in-Got-index : goal.returns-in-Got-index

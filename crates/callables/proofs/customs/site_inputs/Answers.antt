@@ -1,6 +1,5 @@
 -- A site behind its inputs.
 use Rattle.callables.proofs.Items.{used_grows, site-behind, site-no-inputs}
-use borrow.Author.Rules.{rules}
 use Rattle.callables.proofs.customs.site_inputs.Goals as goal
 
 pub overflow_sub-result : goal.overflow_sub-result

@@ -1,14 +1,9 @@
 -- The loop has read some sites and stored their rows, and those of their inputs (`Both`).
 use Prim.Native.Nat.{◌/◌}
-use mathlib.Core.Path.{refl, ap, ◌∙◌}
-use native.Mathlib.Omega.{arith}
-use borrow.Author.Rules.{rules}
 use lib.ListN.{length}
-use Rattle.tables.proofs.Nesting.{nesting-full, nesting-refused}
 use Rattle.format.specs.File.{site}
 use Rattle.format.specs.Rows.{site_row, input_row}
-use Rattle.callables.specs.Items.{site_is}
-use Rattle.callables.proofs.Items.{Both, both-none, both-refused, both-more, both-done, one-not, input-wide}
+use Rattle.callables.proofs.Items.{Both}
 use Rattle.callables.proofs.customs.site_rows.Given as goal
 
 abbrev pub invariant-loop-left : goal.invariant-loop-left

@@ -3,7 +3,6 @@ use borrow.Author.Tests.{eq-eqb, ne_eqb}
 use Rattle.grammar.specs.Outcome.{◌>>=◌, pure, refuse}
 use Rattle.grammar.specs.Combinators.{◌⇒◌∣◌}
 use Rattle.format.specs.File.{access}
-use borrow.Author.Rules.{rules}
 use Rattle.callables.proofs.functions.access.Goals as goal
 
 pub returns-then-value-eq0 : goal.returns-then-value-eq0

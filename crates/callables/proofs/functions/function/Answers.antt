@@ -3,7 +3,6 @@ use Rattle.grammar.specs.Outcome.{◌>>=◌, pure}
 use Rattle.format.specs.File.{function}
 use Rattle.callables.specs.Items.{function_parameters}
 use Rattle.callables.proofs.Items.{one-refused}
-use borrow.Author.Rules.{rules}
 use Rattle.callables.proofs.functions.function.Goals as goal
 
 pub returns-in-Got-this_type : goal.returns-in-Got-this_type

@@ -1,6 +1,5 @@
 -- A function behind its parameters.
 use Rattle.callables.proofs.Items.{used_grows, function-behind, function-no-chunk, function-no-parameters}
-use borrow.Author.Rules.{rules}
 use Rattle.callables.proofs.functions.function_parameters.Goals as goal
 
 pub overflow_sub-result : goal.overflow_sub-result

@@ -1,14 +1,9 @@
 -- The loop has read some functions and stored their rows, and those of their parameters (`Both`).
-use Prim.Native.Nat.{◌/◌}
 use mathlib.Core.Path.{refl, ap, ◌∙◌}
 use native.Mathlib.Omega.{arith}
-use borrow.Author.Rules.{rules}
-use lib.ListN.{length}
 use Rattle.tables.proofs.Nesting.{nesting-full, nesting-refused}
-use Rattle.format.specs.File.{function}
-use Rattle.format.specs.Rows.{function_row, parameter_row}
 use Rattle.callables.specs.Items.{function_is}
-use Rattle.callables.proofs.Items.{Both, both-none, both-refused, both-more, both-done, one-not}
+use Rattle.callables.proofs.Items.{both-none, both-refused, both-more, both-done, one-not}
 use Rattle.callables.proofs.functions.function_rows.Goals as goal
 
 pub loop-left-init : goal.loop-left-init

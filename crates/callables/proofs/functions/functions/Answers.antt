@@ -2,7 +2,6 @@
 use Rattle.grammar.specs.Outcome.{◌>>=◌}
 use Rattle.format.specs.File.{functions}
 use Rattle.callables.proofs.Items.{both-refused}
-use borrow.Author.Rules.{rules}
 use Rattle.callables.proofs.functions.functions.Goals as goal
 
 pub returns-in-Got : goal.returns-in-Got

@@ -1,11 +1,7 @@
 -- The loop has read some names and stored them (`Filling`).
 use native.Mathlib.Omega.{arith}
-use borrow.Author.Rules.{rules}
 use mathlib.Core.Path.{◌∙◌}
-use lib.ListN.{length}
-use Rattle.tables.proofs.Filling.{Filling, filling-none, filling-full, filling-refused, filling-done, left-refused}
-use Rattle.format.specs.File.{name_index}
-use Rattle.format.specs.Rows.{parameter_row}
+use Rattle.tables.proofs.Filling.{filling-none, filling-full, filling-refused, filling-done, left-refused}
 use Rattle.callables.proofs.Items.{filling-word}
 use Rattle.callables.proofs.functions.parameter_rows.Goals as goal
 

@@ -1,12 +1,8 @@
 -- The loop has read some names and stored them (`Filling`).
-use native.Mathlib.Omega.{arith}
-use borrow.Author.Rules.{rules}
-use mathlib.Core.Path.{◌∙◌}
 use lib.ListN.{length}
-use Rattle.tables.proofs.Filling.{Filling, filling-none, filling-full, filling-refused, filling-done, left-refused}
+use Rattle.tables.proofs.Filling.{Filling}
 use Rattle.format.specs.File.{name_index}
 use Rattle.format.specs.Rows.{parameter_row}
-use Rattle.callables.proofs.Items.{filling-word}
 use Rattle.callables.proofs.functions.parameter_rows.Given as goal
 
 abbrev pub invariant-loop-left : goal.invariant-loop-left

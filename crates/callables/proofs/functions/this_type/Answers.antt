@@ -5,7 +5,6 @@ use borrow.Author.Tests.{eq-eqb, ne_eqb, le-leb, lt-leb}
 use Rattle.grammar.specs.Outcome.{◌>>=◌, pure, refuse}
 use Rattle.grammar.specs.Combinators.{check}
 use Rattle.format.specs.File.{this_type}
-use borrow.Author.Rules.{rules}
 use Rattle.callables.proofs.functions.this_type.Goals as goal
 
 pub returns-then-value-eq0 : goal.returns-then-value-eq0

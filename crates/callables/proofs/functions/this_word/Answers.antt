@@ -1,5 +1,4 @@
 -- By the type.
-use borrow.Author.Rules.{rules}
 use Rattle.callables.proofs.functions.this_word.Goals as goal
 
 pub returns-in-Typed : goal.returns-in-Typed

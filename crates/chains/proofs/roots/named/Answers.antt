@@ -1,7 +1,6 @@
 -- Each way of the reads is one line of the definition.
 use Rattle.grammar.specs.Outcome.{◌>>=◌, pure}
 use Rattle.chains.specs.Answers.{named_root}
-use borrow.Author.Rules.{rules}
 use Rattle.chains.proofs.roots.named.Goals as goal
 
 pub returns-in-Got-position : goal.returns-in-Got-position

@@ -4,7 +4,6 @@ use Rattle.grammar.specs.Combinators.{◌⇒◌∣◌, unknown}
 use Rattle.format.specs.File.{root}
 use Rattle.chains.specs.Answers.{local_root, named_root, this_root}
 use borrow.Author.Tests.{eq-eqb, ne_eqb}
-use borrow.Author.Rules.{rules}
 use Rattle.chains.proofs.roots.root.Goals as goal
 
 pub returns-then-tag-eq-LOCAL : goal.returns-then-tag-eq-LOCAL

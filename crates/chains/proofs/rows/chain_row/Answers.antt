@@ -1,6 +1,5 @@
 -- The root's words in front, the tail's behind.
 use Rattle.chains.proofs.Words.{chain-words}
-use borrow.Author.Rules.{rules}
 use Rattle.chains.proofs.rows.chain_row.Goals as goal
 
 pub returns : goal.returns

@@ -1,5 +1,4 @@
 -- Each word of the row.
-use borrow.Author.Rules.{rules}
 use Rattle.chains.proofs.rows.method_row.Goals as goal
 
 pub returns : goal.returns

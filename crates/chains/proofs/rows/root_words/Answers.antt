@@ -1,5 +1,4 @@
 -- Each constructor's row, word by word.
-use borrow.Author.Rules.{rules}
 use Rattle.chains.proofs.rows.root_words.Goals as goal
 
 pub returns-in-Local : goal.returns-in-Local

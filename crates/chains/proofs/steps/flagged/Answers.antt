@@ -3,7 +3,6 @@ use Rattle.grammar.specs.Outcome.{refuse}
 use Rattle.grammar.specs.Combinators.{◌⇒◌∣◌, unknown}
 use Rattle.chains.specs.Answers.{step_flagged}
 use borrow.Author.Tests.{eq-eqb, ne_eqb}
-use borrow.Author.Rules.{rules}
 use Rattle.chains.proofs.steps.flagged.Goals as goal
 
 pub returns-then-tag-eq-INDEX : goal.returns-then-tag-eq-INDEX

@@ -1,7 +1,6 @@
 -- Each way of the reads is one line of the definition.
 use Rattle.grammar.specs.Outcome.{◌>>=◌, pure}
 use Rattle.chains.specs.Answers.{index_step}
-use borrow.Author.Rules.{rules}
 use Rattle.chains.proofs.steps.index_step.Goals as goal
 
 pub returns-in-Got-position-2 : goal.returns-in-Got-position-2

@@ -1,7 +1,6 @@
 -- Each way of the reads is one line of the definition.
 use Rattle.grammar.specs.Outcome.{◌>>=◌}
 use Rattle.chains.specs.Answers.{method_step}
-use borrow.Author.Rules.{rules}
 use Rattle.chains.proofs.steps.method_step.Goals as goal
 
 pub returns-in-Got-byte : goal.returns-in-Got-byte

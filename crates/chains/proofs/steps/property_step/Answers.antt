@@ -1,7 +1,6 @@
 -- Each way of the reads is one line of the definition.
 use Rattle.grammar.specs.Outcome.{◌>>=◌}
 use Rattle.chains.specs.Answers.{property_step}
-use borrow.Author.Rules.{rules}
 use Rattle.chains.proofs.steps.property_step.Goals as goal
 
 pub returns-in-Got-name_index : goal.returns-in-Got-name_index

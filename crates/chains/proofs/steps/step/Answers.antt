@@ -4,7 +4,6 @@ use Rattle.grammar.specs.Combinators.{check}
 use Rattle.format.specs.File.{step}
 use Rattle.chains.specs.Answers.{step_flagged, index_step, property_step, property_at, method_step, method_at}
 use borrow.Author.Tests.{eq-eqb, ne_eqb}
-use borrow.Author.Rules.{rules}
 use Rattle.chains.proofs.steps.step.Goals as goal
 
 pub returns-then-flags-mask : goal.returns-then-flags-mask

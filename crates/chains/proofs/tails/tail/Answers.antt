@@ -4,7 +4,6 @@ use Rattle.grammar.specs.Combinators.{◌⇒◌∣◌, unknown}
 use Rattle.format.specs.File.{tail}
 use Rattle.chains.specs.Answers.{operator_tail}
 use borrow.Author.Tests.{eq-eqb, ne_eqb}
-use borrow.Author.Rules.{rules}
 use Rattle.chains.proofs.tails.tail.Goals as goal
 
 pub returns-then-tag-eq-READ : goal.returns-then-tag-eq-READ

@@ -1,7 +1,6 @@
 -- Along the path of the code.
 use Rattle.grammar.specs.Outcome.{◌>>=◌, pure}
 use Rattle.constants.specs.Parts.{headed, array_front}
-use borrow.Author.Rules.{rules}
 use Rattle.constants.proofs.heads.array.Goals as goal
 
 pub returns-in-Got : goal.returns-in-Got

@@ -1,9 +1,9 @@
 -- By the tag: each arm reads what the definition says.
+use native.Mathlib.Omega.{arith}
 use borrow.Author.Tests.{ne_eqb}
 use Rattle.grammar.specs.Outcome.{pure, refuse, ◌>>=◌}
 use Rattle.grammar.specs.Combinators.{◌⇒◌∣◌, unknown}
 use Rattle.constants.specs.Parts.{headed, front_of}
-use borrow.Author.Rules.{rules}
 use Rattle.constants.proofs.heads.by_tag.Goals as goal
 
 pub returns-in-0 : goal.returns-in-0
@@ -74,4 +74,4 @@ returns-in-13 c =
 pub returns-in_default : goal.returns-in_default
 unfolding headed front_of ◌⇒◌∣◌ unknown pure refuse ◌>>=◌
 returns-in_default c =
-    rw (ne_eqb _ 0 c.in-0.rest.0.0.0.0.0.0.0.0.0.0.0.0.1, ne_eqb _ 1 c.in-0.rest.0.0.0.0.0.0.0.0.0.0.0.1, ne_eqb _ 2 c.in-0.rest.0.0.0.0.0.0.0.0.0.0.1, ne_eqb _ 3 c.in-0.rest.0.0.0.0.0.0.0.0.0.1, ne_eqb _ 4 c.in-0.rest.0.0.0.0.0.0.0.0.1, ne_eqb _ 5 c.in-0.rest.0.0.0.0.0.0.0.1, ne_eqb _ 6 c.in-0.rest.0.0.0.0.0.0.1, ne_eqb _ 7 c.in-0.rest.0.0.0.0.0.1, ne_eqb _ 8 c.in-0.rest.0.0.0.0.1, ne_eqb _ 9 c.in-0.rest.0.0.0.1, ne_eqb _ 10 c.in-0.rest.0.0.1, ne_eqb _ 11 c.in-0.rest.0.1, ne_eqb _ 13 c.in-0.rest.1)
+    rw (ne_eqb c.args.tag 0 (omega arith), ne_eqb c.args.tag 1 (omega arith), ne_eqb c.args.tag 2 (omega arith), ne_eqb c.args.tag 3 (omega arith), ne_eqb c.args.tag 4 (omega arith), ne_eqb c.args.tag 5 (omega arith), ne_eqb c.args.tag 6 (omega arith), ne_eqb c.args.tag 7 (omega arith), ne_eqb c.args.tag 8 (omega arith), ne_eqb c.args.tag 9 (omega arith), ne_eqb c.args.tag 10 (omega arith), ne_eqb c.args.tag 11 (omega arith), ne_eqb c.args.tag 13 (omega arith))

@@ -3,7 +3,6 @@ use mathlib.Core.Path.{sym, ◌∙◌}
 use Rattle.grammar.specs.Outcome.{◌>>=◌, pure, refuse}
 use Rattle.grammar.specs.Combinators.{check}
 use Rattle.constants.specs.Parts.{headed, char_front}
-use borrow.Author.Rules.{rules}
 use Rattle.constants.proofs.heads.char.Goals as goal
 
 pub returns-then-is_scalar : goal.returns-then-is_scalar

@@ -1,7 +1,6 @@
 -- The tag, and what it says to read.
 use Rattle.grammar.specs.Outcome.{◌>>=◌}
 use Rattle.constants.specs.Parts.{headed, front}
-use borrow.Author.Rules.{rules}
 use Rattle.constants.proofs.heads.head_of.Goals as goal
 
 pub returns-in-Got : goal.returns-in-Got

@@ -1,7 +1,6 @@
 -- The row is stored once its words a and b are known.
 use mathlib.Core.Path.{refl, ◌∙◌}
 use Rattle.constants.proofs.Keeping.{kept-got, kept-refused}
-use borrow.Author.Rules.{rules}
 use Rattle.constants.proofs.tails.closed.Goals as goal
 
 pub returns-in-Got : goal.returns-in-Got

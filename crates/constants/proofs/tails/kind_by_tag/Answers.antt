@@ -1,9 +1,9 @@
 -- By the tag: each arm reads what the definition says.
+use native.Mathlib.Omega.{arith}
 use borrow.Author.Tests.{ne_eqb}
 use Rattle.grammar.specs.Outcome.{pure, refuse}
 use Rattle.grammar.specs.Combinators.{◌⇒◌∣◌, unknown}
 use Rattle.constants.specs.Parts.{kind_of}
-use borrow.Author.Rules.{rules}
 use Rattle.constants.proofs.tails.kind_by_tag.Goals as goal
 
 pub returns-in-129 : goal.returns-in-129
@@ -19,4 +19,4 @@ returns-in-130 c =
 pub returns-in_default : goal.returns-in_default
 unfolding kind_of ◌⇒◌∣◌ unknown pure refuse
 returns-in_default c =
-    rw (ne_eqb _ 0x81 c.in-129.rest.0.1, ne_eqb _ 0x82 c.in-129.rest.1)
+    rw (ne_eqb c.args.tag 0x81 (omega arith), ne_eqb c.args.tag 0x82 (omega arith))

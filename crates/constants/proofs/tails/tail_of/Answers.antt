@@ -1,7 +1,6 @@
 -- Only a pointer has a tail.
 use Rattle.grammar.specs.Outcome.{pure}
 use Rattle.constants.specs.Parts.{tail_of}
-use borrow.Author.Rules.{rules}
 use Rattle.constants.proofs.tails.tail_of.Goals as goal
 
 pub returns-then-head : goal.returns-then-head

@@ -2,7 +2,6 @@
 use native.Mathlib.Omega.{arith}
 use Rattle.grammar.specs.Combinators.{fixed}
 use Rattle.constants.proofs.Taken.{too_few, enough-there}
-use borrow.Author.Rules.{rules}
 use Rattle.constants.proofs.words.word.Goals as goal
 
 pub returns-then-s-at : goal.returns-then-s-at

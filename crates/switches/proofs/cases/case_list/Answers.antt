@@ -2,7 +2,6 @@
 use Rattle.grammar.specs.Outcome.{◌>>=◌}
 use Rattle.format.specs.File.{list}
 use Rattle.tables.proofs.Filling.{left-refused}
-use borrow.Author.Rules.{rules}
 use Rattle.switches.proofs.cases.case_list.Goals as goal
 
 pub returns-in-Got : goal.returns-in-Got

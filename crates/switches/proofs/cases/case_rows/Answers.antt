@@ -1,12 +1,7 @@
 -- The loop has read some cases and stored their rows (`Filling`).
-use Prim.Native.Nat.{◌/◌}
 use mathlib.Core.Path.{refl, ◌∙◌}
 use native.Mathlib.Omega.{arith}
-use borrow.Author.Rules.{rules}
-use lib.ListN.{length}
-use Rattle.tables.proofs.Filling.{Filling, filling-none, filling-full, filling-refused, filling-more, filling-done, left-refused}
-use Rattle.format.specs.File.{case}
-use Rattle.format.specs.Rows.{case_row}
+use Rattle.tables.proofs.Filling.{filling-none, filling-full, filling-refused, filling-more, filling-done, left-refused}
 use Rattle.switches.proofs.cases.case_rows.Goals as goal
 
 pub loop-left-init : goal.loop-left-init

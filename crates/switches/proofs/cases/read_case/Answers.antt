@@ -4,7 +4,6 @@ use borrow.Author.Tests.{lt-ltb, le-ltb}
 use Rattle.grammar.specs.Outcome.{◌>>=◌, pure, refuse}
 use Rattle.grammar.specs.Combinators.{place, check}
 use Rattle.format.specs.File.{case}
-use borrow.Author.Rules.{rules}
 use Rattle.switches.proofs.cases.read_case.Goals as goal
 
 pub returns-then-wide-tops : goal.returns-then-wide-tops

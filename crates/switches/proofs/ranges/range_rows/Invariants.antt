@@ -1,10 +1,7 @@
 -- The loop has read some ranges and stored their rows (`Filling`).
 use Prim.Native.Nat.{◌/◌}
-use mathlib.Core.Path.{refl, ◌∙◌}
-use native.Mathlib.Omega.{arith}
-use borrow.Author.Rules.{rules}
 use lib.ListN.{length}
-use Rattle.tables.proofs.Filling.{Filling, filling-none, filling-full, filling-refused, filling-more, filling-done, left-refused}
+use Rattle.tables.proofs.Filling.{Filling}
 use Rattle.format.specs.File.{case_range}
 use Rattle.format.specs.Rows.{range_row}
 use Rattle.switches.proofs.ranges.range_rows.Given as goal

@@ -1,0 +1,13 @@
+-- The loop has copied i bytes (`Copying`).
+use Prim.Native.Nat.{◌-◌}
+use native.Mathlib.Omega.{arith}
+use Rattle.emit.proofs.Laws.{puts-nowhere}
+use Rattle.emit.proofs.Texts.{part_length, Copying, copying-none, copying-more, copying-all}
+use borrow.Author.Rules.{rules}
+use Rattle.emit.proofs.base.copied_each.Given as goal
+
+abbrev pub invariant-loop-i : goal.invariant-loop-i
+invariant-loop-i l = Copying l.text l.from l.n l.initial.out l.at l.out l.i
+
+abbrev pub decreases-loop-i : goal.decreases-loop-i
+decreases-loop-i l = l.n - l.i

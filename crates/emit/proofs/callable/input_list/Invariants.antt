@@ -1,0 +1,16 @@
+-- The rows before j are put (`Listing`).
+use Prim.Native.Nat.{◌+◌, ◌*◌, ◌-◌}
+use mathlib.Core.Path.{◌∙◌}
+use lib.ListN.{drop}
+use Rattle.grammar.specs.Combinators.{put_all}
+use Rattle.written.specs.Put.{put_input}
+use Rattle.rows.specs.Back.{records_of, input_of}
+use Rattle.emit.proofs.Listing.{Listing, listing-from, listing-row, listing-more, listed-from}
+use borrow.Author.Rules.{rules}
+use Rattle.emit.proofs.callable.input_list.Given as goal
+
+abbrev pub invariant-loop-j : goal.invariant-loop-j
+invariant-loop-j l = Listing put_input 5 input_of l.t (put_all put_input (records_of 5 input_of l.n (drop (l.from * 5) l.t))) l.initial.out l.initial.place l.j (l.from + l.n) l.out l.place
+
+abbrev pub decreases-loop-j : goal.decreases-loop-j
+decreases-loop-j l = l.from + l.n - l.j

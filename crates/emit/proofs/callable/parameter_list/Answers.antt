@@ -1,0 +1,30 @@
+-- The rows before j are put (`Listing`).
+use Prim.Native.Nat.{◌+◌, ◌*◌, ◌-◌}
+use mathlib.Core.Path.{◌∙◌}
+use lib.ListN.{drop}
+use Rattle.grammar.specs.Combinators.{put_all}
+use Rattle.written.specs.Put.{put_name}
+use Rattle.rows.specs.Back.{records_of, parameter_of}
+use Rattle.emit.proofs.Listing.{Listing, listing-from, listing-row, listing-more, listed-from}
+use borrow.Author.Rules.{rules}
+use Rattle.emit.proofs.callable.parameter_list.Goals as goal
+
+pub loop-j-init : goal.loop-j-init
+loop-j-init c =
+    listing-from c.args.from c.args.n c.requires
+
+pub row_of_one-row-requires : goal.row_of_one-row-requires
+row_of_one-row-requires c =
+    listing-row c.loop-j.invariant c.loop-j-test.true
+
+pub loop-j-preserved : goal.loop-j-preserved
+loop-j-preserved c =
+    listing-more c.loop-j.invariant c.loop-j-test.true (rw c.row_of_one-row.ensures at c.index-place.ensures)
+
+pub shape_of-out : goal.shape_of-out
+shape_of-out c =
+    c.loop-j.invariant.going.same ∙ c.number-place.ensures.kept
+
+pub returns : goal.returns
+returns c =
+    listed-from c.args.from c.args.n c.number-place.ensures c.loop-j.invariant c.loop-j-test.false

@@ -1,0 +1,8 @@
+-- One field behind another.
+use Rattle.emit.proofs.Laws.{puts_then}
+use borrow.Author.Rules.{rules}
+use Rattle.emit.proofs.lists.assign.Goals as goal
+
+pub returns : goal.returns
+returns c =
+    puts_then c.text-token.ensures (puts_then c.index-named.ensures (puts_then c.text-other.ensures c.index.ensures))

@@ -1,0 +1,7 @@
+-- By the tag.
+use borrow.Author.Rules.{rules}
+use Rattle.emit.proofs.owning.listed.Goals as goal
+
+pub returns : goal.returns
+returns c =
+    rw (c.pointer.ensures, c.either.ensures) at c.either-2.ensures

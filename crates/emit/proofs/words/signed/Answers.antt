@@ -1,0 +1,7 @@
+-- The number of the word.
+use borrow.Author.Rules.{rules}
+use Rattle.emit.proofs.words.signed.Goals as goal
+
+pub returns : goal.returns
+returns c =
+    rw c.folded.ensures at c.number.ensures

@@ -1,0 +1,27 @@
+-- The loop stands by one law for all tables (Standing).
+use mathlib.Core.Path.{sym, ◌∙◌}
+use Prim.Native.Nat.{◌-◌}
+use native.Mathlib.Omega.{arith}
+use borrow.Author.Rules.{rules}
+use borrow.Author.Tests.{not-true, not-false}
+use Rattle.rules.specs.Keeps.{keeps_assign}
+use Rattle.rules.proofs.Standing.{Standing, standing-none, standing-fails, standing-next, standing-end}
+use Rattle.rules.proofs.each.assigns.Goals as goal
+
+pub loop-k-init : goal.loop-k-init
+loop-k-init c =
+    standing-none _ _ _ _
+
+pub returns-then-not-assign_keeps : goal.returns-then-not-assign_keeps
+returns-then-not-assign_keeps c =
+    standing-fails _ _ _ _ c.loop-k.invariant (omega arith)
+    (rw c.of_six-words.ensures at (sym c.assign_keeps.ensures) ∙ c.if-not-assign_keeps.true)
+
+pub loop-k-preserved : goal.loop-k-preserved
+loop-k-preserved c =
+    standing-next _ _ _ _ c.loop-k.invariant (omega arith)
+    (rw c.of_six-words.ensures at (sym c.assign_keeps.ensures) ∙ c.if-not-assign_keeps.false)
+
+pub returns : goal.returns
+returns c =
+    standing-end _ _ _ _ c.loop-k.invariant (omega arith)

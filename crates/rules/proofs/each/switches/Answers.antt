@@ -1,0 +1,27 @@
+-- The loop stands by one law for all tables (Standing).
+use mathlib.Core.Path.{sym, ◌∙◌}
+use Prim.Native.Nat.{◌-◌}
+use native.Mathlib.Omega.{arith}
+use borrow.Author.Rules.{rules}
+use borrow.Author.Tests.{not-true, not-false}
+use Rattle.model.specs.Rules.{sound_switch}
+use Rattle.rules.proofs.Standing.{Standing, standing-none, standing-fails, standing-next, standing-end}
+use Rattle.rules.proofs.each.switches.Goals as goal
+
+pub loop-k-init : goal.loop-k-init
+loop-k-init c =
+    standing-none _ _ _ _
+
+pub returns-then-not-sound_switch : goal.returns-then-not-sound_switch
+returns-then-not-sound_switch c =
+    standing-fails _ _ _ _ c.loop-k.invariant (omega arith)
+    (rw c.of_three-words.ensures at (sym c.sound_switch.ensures) ∙ c.if-not-sound_switch.true)
+
+pub loop-k-preserved : goal.loop-k-preserved
+loop-k-preserved c =
+    standing-next _ _ _ _ c.loop-k.invariant (omega arith)
+    (rw c.of_three-words.ensures at (sym c.sound_switch.ensures) ∙ c.if-not-sound_switch.false)
+
+pub returns : goal.returns
+returns c =
+    standing-end _ _ _ _ c.loop-k.invariant (omega arith)

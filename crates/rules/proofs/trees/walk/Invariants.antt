@@ -1,0 +1,14 @@
+-- The walk stands by its law (Walking).
+use mathlib.Core.Path.{◌∙◌, ap}
+use Prim.Native.Nat.{◌-◌}
+use native.Mathlib.Omega.{arith}
+use borrow.Author.Rules.{rules}
+use Rattle.model.specs.Rules.{owns}
+use Rattle.rules.proofs.Walking.{Walking, walking-none, walking-paid, walking-short, walking-greedy, walking-row, walking-end}
+use Rattle.rules.proofs.trees.walk.Given as goal
+
+abbrev pub invariant-loop-k : goal.invariant-loop-k
+invariant-loop-k l = Walking l.t l.used l.from l.n l.k l.owed
+
+abbrev pub decreases-loop-k : goal.decreases-loop-k
+decreases-loop-k l = l.used - l.k

@@ -1,0 +1,15 @@
+-- Each test in its place.
+use borrow.Author.Rules.{rules}
+use Rattle.rules.proofs.whole.callables_keep.Goals as goal
+
+pub returns : goal.returns
+returns c =
+    rw (
+      c.both.ensures,
+      c.both-behind.ensures,
+      c.indices.ensures,
+      c.functions.ensures,
+      c.both-front.ensures,
+      c.inputs.ensures,
+      c.customs.ensures,
+    )
