@@ -1,21 +1,20 @@
 -- The loop over the ends of the names, and the section behind it.
-use Prim.Native.Nat.{ℕ, zero, suc, ◌+◌, ◌*◌, ◌-◌, ◌≤◌, ◌<◌}
+use Prim.Native.Nat.{ℕ, suc, ◌+◌, ◌-◌, ◌≤◌, ◌<◌}
 use mathlib.Core.Path.{◌≡◌, refl, sym, ◌∙◌, ap}
 use mathlib.Core.Bool.{Bool, true, false, ◌&&◌}
 use mathlib.Core.List.{List, [], ◌∷◌, ◌++◌}
 use native.Mathlib.Omega.{arith}
 use lib.ListN.{length, set, length-append, length-set}
-use lib.Seq.{sets}
 use lib.Dec.{leb, eqb}
 use Rattle.refusal.specs.declared.Refusal.{Refusal}
 use Rattle.refusal.specs.declared.NamesFault.{NamesFault}
 use Rattle.grammar.specs.declared.Cursor.{Cursor}
-use Rattle.grammar.specs.Outcome.{Outcome, got, refused, Parser, after, pure, refuse, ◌>>=◌, ◌>>◌}
+use Rattle.grammar.specs.Outcome.{Outcome, got, refused, after, pure, refuse, ◌>>=◌, ◌>>◌}
 use Rattle.grammar.specs.Combinators.{Text, check, room, many}
 use Rattle.grammar.specs.Number.{index}
 use Rattle.grammar.proofs.Outcome.{got-ne-refused, got-value, got-next, bind-got}
 use Rattle.utf8.specs.Check.{is_utf8}
-use Rattle.tables.specs.Table.{rows, records}
+use Rattle.tables.specs.Table.{records}
 use Rattle.tables.proofs.Listing.{Listing, listing_none, listing-more, listing-refused, listing-left, listing-done, Stored, stored-none, stored_more}
 use Rattle.tables.proofs.Filling.{placed-full, placed-free}
 use Rattle.format.specs.Artifact.{Names}
@@ -24,7 +23,7 @@ use Rattle.format.specs.Rows.{end_row}
 use Rattle.sections.specs.declared.names.Ends.{Ends}
 use Rattle.sections.specs.declared.names.ReadEnds.{ReadEnds}
 use Rattle.sections.specs.declared.names.ReadNames.{ReadNames}
-use Rattle.sections.specs.Names.{ends_of, joined, Counted, ends_behind, ends_is, LeftEnds, Named, names_behind, names_is, LeftNames, names_rest, names_judged, names_blob}
+use Rattle.sections.specs.Names.{ends_of, joined, Counted, ends_behind, ends_is, LeftEnds, names_behind, names_is, LeftNames, names_rest, names_judged, names_blob}
 
 -- one end more
 pub and-true : (b : Bool) → (b && true) ≡ b

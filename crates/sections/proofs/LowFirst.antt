@@ -1,6 +1,6 @@
 -- Fields of a fixed number of bytes: when they are taken, the sum from the last byte to the first, and the one law of every width.
 use Prim.Native.Nat.{ℕ, zero, suc, ◌+◌, ◌*◌, ◌-◌, ◌^◌, ◌≤◌, ◌<◌}
-use mathlib.Core.Path.{◌≡◌, refl, sym, ◌∙◌, ap, subst}
+use mathlib.Core.Path.{◌≡◌, sym, ◌∙◌, ap, subst}
 use mathlib.Core.List.{List}
 use native.Mathlib.Omega.{arith}
 use lib.ListN.{length, get_or}
@@ -11,7 +11,7 @@ use borrow.Author.Tests.{le-leb, lt-leb}
 use Rattle.refusal.specs.declared.Refusal.{Refusal}
 use Rattle.grammar.specs.declared.Cursor.{Cursor}
 use Rattle.grammar.specs.Outcome.{advanced, got, refused}
-use Rattle.grammar.specs.Combinators.{taking, byte, low_first, fixed}
+use Rattle.grammar.specs.Combinators.{taking, low_first, fixed}
 use Rattle.varint.specs.declared.ReadNumber.{ReadNumber}
 use Rattle.sections.specs.Answers.{FixedRead}
 

@@ -10,10 +10,8 @@ use lib.ListN.{length, take, drop, get_or, length-take, length-drop}
 use lib.Seq.{drop-cons}
 use lib.Dec.{leb}
 use borrow.Author.Tests.{le-leb, lt-leb}
-use Rattle.refusal.specs.declared.Refusal.{Refusal}
 use Rattle.grammar.specs.declared.Cursor.{Cursor}
-use Rattle.grammar.specs.declared.Span.{Span}
-use Rattle.grammar.specs.Outcome.{Outcome, got, refused, ◌>>=◌}
+use Rattle.grammar.specs.Outcome.{got}
 use Rattle.grammar.specs.Combinators.{Text, text_at, text}
 use Rattle.grammar.specs.Number.{number}
 use Rattle.grammar.proofs.Outcome.{got-ne-refused, got-value, Twice, bind-got}

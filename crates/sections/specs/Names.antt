@@ -1,10 +1,9 @@
 -- What a read of the names answers and leaves, and the rests of the section behind its first fields.
-use Rattle.std.specs.Prelude.{ℕ, ◌≡◌, Bool, true, ◌&&◌, List, length, leb, eqb}
+use Rattle.std.specs.Prelude.{ℕ, ◌≡◌, ◌&&◌, List, length, leb, eqb}
 use Rattle.std.proofs.lemmas.List.Edits.{sets}
 use Rattle.refusal.specs.declared.Refusal.{Refusal}
 use Rattle.refusal.specs.declared.NamesFault.{NamesFault}
 use Rattle.grammar.specs.declared.Cursor.{Cursor}
-use Rattle.grammar.specs.declared.Span.{Span}
 use Rattle.grammar.specs.Outcome.{Outcome, got, refused, Parser, pure, ◌>>=◌, ◌>>◌}
 use Rattle.grammar.specs.Combinators.{Text, text_at, check, left}
 use Rattle.grammar.specs.Number.{index}

@@ -1,0 +1,15 @@
+-- A count, then the records.
+use Rattle.grammar.specs.Outcome.{◌>>=◌}
+use Rattle.format.specs.File.{list, tokens}
+use Rattle.tables.proofs.Filling.{left-refused}
+use Rattle.sections.proofs.tokens.tokens.Goals as goal
+
+pub returns-in-Got : goal.returns-in-Got
+unfolding tokens list ◌>>=◌
+returns-in-Got c =
+    rw (c.uvarint.ensures, c.in-Got.is) c.token_rows.ensures
+
+pub returns-in-Refused : goal.returns-in-Refused
+unfolding tokens list ◌>>=◌
+returns-in-Refused c =
+    left-refused (rw (c.uvarint.ensures, c.in-Refused.is))
