@@ -1,5 +1,4 @@
 -- Each test in its place.
-use borrow.Author.Rules.{rules}
 use Rattle.rules.proofs.counts.switches_fit.Goals as goal
 
 pub returns : goal.returns

@@ -1,11 +1,7 @@
 -- The loop stands by one law for all tables (Standing).
 use mathlib.Core.Path.{sym, ◌∙◌}
-use Prim.Native.Nat.{◌-◌}
 use native.Mathlib.Omega.{arith}
-use borrow.Author.Rules.{rules}
-use borrow.Author.Tests.{not-true, not-false}
-use Rattle.model.specs.Rules.{sound_range}
-use Rattle.rules.proofs.Standing.{Standing, standing-none, standing-fails, standing-next, standing-end}
+use Rattle.rules.proofs.Standing.{standing-none, standing-fails, standing-next, standing-end}
 use Rattle.rules.proofs.each.ranges.Goals as goal
 
 pub loop-k-init : goal.loop-k-init

@@ -1,7 +1,6 @@
 -- The loop stands by its law (Ending).
-use Prim.Native.Nat.{◌-◌}
 use native.Mathlib.Omega.{arith}
-use Rattle.rules.proofs.Ending.{Ending, ending-none, ending-falls, ending-next, ending-end}
+use Rattle.rules.proofs.Ending.{ending-none, ending-falls, ending-next, ending-end}
 use Rattle.rules.proofs.names.ends.Goals as goal
 
 pub loop-k-init : goal.loop-k-init

@@ -1,7 +1,6 @@
 -- The loop stands by its law (Ending).
 use Prim.Native.Nat.{◌-◌}
-use native.Mathlib.Omega.{arith}
-use Rattle.rules.proofs.Ending.{Ending, ending-none, ending-falls, ending-next, ending-end}
+use Rattle.rules.proofs.Ending.{Ending}
 use Rattle.rules.proofs.names.ends.Given as goal
 
 abbrev pub invariant-loop-k : goal.invariant-loop-k

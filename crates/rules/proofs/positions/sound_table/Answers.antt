@@ -1,7 +1,6 @@
 -- Nothing, or the part that the span cuts.
 use borrow.Author.Tests.{ne_eqb}
 use Rattle.utf8.proofs.Short.{whole_run}
-use borrow.Author.Rules.{rules}
 use Rattle.rules.proofs.positions.sound_table.Goals as goal
 
 pub returns-then-span-eq0 : goal.returns-then-span-eq0

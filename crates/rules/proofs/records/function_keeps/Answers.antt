@@ -1,5 +1,4 @@
 use borrow.Author.Tests.{ne_eqb}
-use borrow.Author.Rules.{rules}
 use Rattle.rules.proofs.records.function_keeps.Goals as goal
 
 pub returns-then-rule-eq-ALL : goal.returns-then-rule-eq-ALL

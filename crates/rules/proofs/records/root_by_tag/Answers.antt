@@ -1,5 +1,4 @@
-use borrow.Author.Tests.{eq-eqb, ne_eqb}
-use borrow.Author.Rules.{rules}
+use borrow.Author.Tests.{ne_eqb}
 use Rattle.rules.proofs.records.root_by_tag.Goals as goal
 
 pub returns-then-row-eq1 : goal.returns-then-row-eq1

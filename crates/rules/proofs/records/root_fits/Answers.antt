@@ -1,4 +1,3 @@
-use borrow.Author.Rules.{rules}
 use Rattle.rules.proofs.records.root_fits.Goals as goal
 
 pub returns : goal.returns

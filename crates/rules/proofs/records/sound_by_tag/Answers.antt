@@ -1,7 +1,6 @@
 -- All words fit, or the tag decides.
 use mathlib.Core.Path.{sym, ◌∙◌}
 use Rattle.rules.proofs.Plain.{step-plain}
-use borrow.Author.Rules.{rules}
 use Rattle.rules.proofs.records.sound_by_tag.Goals as goal
 
 pub returns-then-step_fits : goal.returns-then-step_fits

@@ -1,7 +1,6 @@
 -- All words fit, or the tag decides.
 use mathlib.Core.Path.{sym, ◌∙◌}
 use Rattle.rules.proofs.Plain.{root-plain}
-use borrow.Author.Rules.{rules}
 use Rattle.rules.proofs.records.sound_root.Goals as goal
 
 pub returns-then-root_fits : goal.returns-then-root_fits

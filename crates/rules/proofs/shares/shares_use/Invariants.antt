@@ -1,7 +1,6 @@
 -- The loop stands by its law (Sharing).
 use Prim.Native.Nat.{◌-◌}
-use native.Mathlib.Omega.{arith}
-use Rattle.rules.proofs.Sharing.{share-there, Sharing, sharing-none, sharing-greedy, sharing-next, sharing-end}
+use Rattle.rules.proofs.Sharing.{Sharing}
 use Rattle.rules.proofs.shares.shares_use.Given as goal
 
 abbrev pub invariant-loop-k : goal.invariant-loop-k

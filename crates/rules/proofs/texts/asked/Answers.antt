@@ -1,5 +1,4 @@
 use borrow.Author.Tests.{ne_eqb}
-use borrow.Author.Rules.{rules}
 use Rattle.rules.proofs.texts.asked.Goals as goal
 
 pub returns-then-rule-eq2 : goal.returns-then-rule-eq2

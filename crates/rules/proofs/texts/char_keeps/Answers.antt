@@ -1,4 +1,3 @@
-use borrow.Author.Rules.{rules}
 use Rattle.rules.proofs.texts.char_keeps.Goals as goal
 
 pub returns : goal.returns

@@ -1,7 +1,5 @@
 -- Nothing is asked of it, or its text is judged.
 use mathlib.Core.Path.{sym, ◌∙◌}
-use borrow.Author.Tests.{not-true, not-false}
-use borrow.Author.Rules.{rules}
 use Rattle.rules.proofs.texts.text_keeps.Goals as goal
 
 pub returns-then-not-asked : goal.returns-then-not-asked

@@ -1,11 +1,8 @@
 -- The loop stands by its law (Entries).
 use mathlib.Core.Path.{sym, ◌∙◌, ap}
 use native.Mathlib.Omega.{arith}
-use borrow.Author.Rules.{rules}
-use borrow.Author.Tests.{not-true, not-false}
 use Rattle.model.specs.Rules.{owns}
-use Rattle.rules.specs.Keeps.{keeps_key}
-use Rattle.rules.proofs.Entries.{Entering, entering-none, entering-paid, entering-fails, entering-next, entering-end}
+use Rattle.rules.proofs.Entries.{entering-none, entering-paid, entering-fails, entering-next, entering-end}
 use Rattle.rules.proofs.trees.entries_keep.Goals as goal
 
 pub loop-k-init : goal.loop-k-init

@@ -2,7 +2,6 @@
 use Prim.Native.Nat.{ℕ}
 use mathlib.Core.Path.{sym, ◌∙◌, ap}
 use mathlib.Core.List.{List}
-use borrow.Author.Rules.{rules}
 use Rattle.model.specs.Rules.{exactly}
 use Rattle.rules.proofs.From.{from_all}
 use Rattle.rules.proofs.trees.exactly.Goals as goal

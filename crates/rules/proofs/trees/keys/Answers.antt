@@ -1,11 +1,7 @@
 -- The loop stands by its law (Keyed).
 use mathlib.Core.Path.{sym, ◌∙◌}
-use Prim.Native.Nat.{◌-◌}
 use native.Mathlib.Omega.{arith}
-use borrow.Author.Rules.{rules}
-use borrow.Author.Tests.{not-true, not-false}
-use Rattle.rules.specs.Keeps.{keeps_key}
-use Rattle.rules.proofs.Keyed.{Keying, keying-none, keying-fails, keying-next, keying-end}
+use Rattle.rules.proofs.Keyed.{keying-none, keying-fails, keying-next, keying-end}
 use Rattle.rules.proofs.trees.keys.Goals as goal
 
 pub loop-k-init : goal.loop-k-init

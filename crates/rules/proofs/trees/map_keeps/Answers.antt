@@ -1,5 +1,4 @@
 -- What the row at a place says, by its law (Keyed).
-use borrow.Author.Rules.{rules}
 use Rattle.rules.specs.Keeps.{keeps_key}
 use Rattle.rules.proofs.Keyed.{of_map, of_other}
 use Rattle.rules.proofs.trees.map_keeps.Goals as goal

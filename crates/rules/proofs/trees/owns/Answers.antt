@@ -1,6 +1,5 @@
 -- The tag is one of the three that own items, or it is not.
 use mathlib.Core.Path.{sym, ◌∙◌}
-use borrow.Author.Rules.{rules}
 use Rattle.rules.proofs.trees.owns.Goals as goal
 
 pub returns-then-either : goal.returns-then-either

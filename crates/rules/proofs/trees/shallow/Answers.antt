@@ -1,5 +1,4 @@
 -- The top constants are reached from the first row on.
-use borrow.Author.Rules.{rules}
 use Rattle.format.specs.Artifact.{levels}
 use Rattle.rules.proofs.Depth.{from_first}
 use Rattle.rules.proofs.trees.shallow.Goals as goal

@@ -1,10 +1,6 @@
 -- The walk stands by its law (Walking).
-use mathlib.Core.Path.{◌∙◌, ap}
 use Prim.Native.Nat.{◌-◌}
-use native.Mathlib.Omega.{arith}
-use borrow.Author.Rules.{rules}
-use Rattle.model.specs.Rules.{owns}
-use Rattle.rules.proofs.Walking.{Walking, walking-none, walking-paid, walking-short, walking-greedy, walking-row, walking-end}
+use Rattle.rules.proofs.Walking.{Walking}
 use Rattle.rules.proofs.trees.walk.Given as goal
 
 abbrev pub invariant-loop-k : goal.invariant-loop-k

@@ -1,5 +1,4 @@
 -- Each test in its place.
-use borrow.Author.Rules.{rules}
 use Rattle.rules.proofs.whole.callables_keep.Goals as goal
 
 pub returns : goal.returns

@@ -1,4 +1,3 @@
-use borrow.Author.Rules.{rules}
 use Rattle.rules.proofs.words.sound_position.Goals as goal
 
 pub returns : goal.returns
