@@ -1,14 +1,14 @@
 -- The end of the file, and the limit in front of it: from the steps to the definition of the whole.
 use Prim.Native.Nat.{ℕ, ◌-◌, ◌≤◌, ◌<◌}
-use mathlib.Core.Path.{◌≡◌, refl, sym, ◌∙◌, ap}
+use mathlib.Core.Path.{◌≡◌, refl, ◌∙◌}
 use mathlib.Core.Bool.{Bool, true, false}
 use mathlib.Core.List.{List}
 use lib.ListN.{length}
-use lib.Dec.{ltb, eqb}
+use lib.Dec.{eqb}
 use borrow.Author.Tests.{lt-ltb, le-ltb}
 use Rattle.refusal.specs.declared.Refusal.{Refusal}
 use Rattle.grammar.specs.declared.Cursor.{Cursor}
-use Rattle.grammar.specs.Outcome.{start, Outcome, got, refused, Parser, pure, after}
+use Rattle.grammar.specs.Outcome.{start, Outcome, got, refused, pure, after}
 use Rattle.grammar.specs.Combinators.{if◌then◌else◌, ended}
 use Rattle.grammar.specs.Combinators as combinators
 use Rattle.format.specs.Artifact as A

@@ -1,9 +1,7 @@
 -- How the steps join to the whole: what has been read so far, what is known of it, and what is still to be read by the definition.
-use Prim.Native.Nat.{ℕ, ◌+◌, zero-le}
-use mathlib.Core.Path.{◌≡◌, refl, sym, ◌∙◌, ap}
-use mathlib.Core.List.{List, foldl}
-use native.Mathlib.Nat.{zero-add}
-use lib.ListN.{length}
+use Prim.Native.Nat.{ℕ}
+use mathlib.Core.Path.{◌≡◌}
+use mathlib.Core.List.{List}
 use Rattle.refusal.specs.declared.Refusal.{Refusal}
 use Rattle.grammar.specs.declared.Cursor.{Cursor}
 use Rattle.grammar.specs.Outcome.{Outcome, got, refused, Parser, after, ◌>>=◌}

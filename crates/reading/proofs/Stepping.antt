@@ -1,6 +1,6 @@
 -- How a step is met, at a place and at a refusal.
 use Prim.Native.Nat.{ℕ}
-use mathlib.Core.Path.{◌≡◌, subst, sym}
+use mathlib.Core.Path.{◌≡◌, subst}
 use native.Mathlib.Omega.{arith}
 use Rattle.refusal.specs.declared.Refusal.{Refusal}
 use Rattle.grammar.specs.declared.Cursor.{Cursor}

@@ -11,8 +11,6 @@ use Rattle.grammar.specs.declared.Cursor.{Cursor}
 use Rattle.grammar.specs.Outcome.{Outcome, got, refused, Parser}
 use Rattle.grammar.specs.Combinators.{Text}
 use Rattle.grammar.proofs.Outcome.{got-ne-refused, got-value, got-next}
-use Rattle.fields.specs.declared.ReadText.{ReadText}
-use Rattle.fields.specs.Answers.{text_is}
 use Rattle.tables.specs.declared.Listed.{Listed}
 use Rattle.tables.specs.declared.Nested.{Nested}
 use Rattle.tables.specs.Table.{rows, listed_is, used_behind, Left, With, Used, behind_one, count_items, nested_is, used_both, LeftBoth}

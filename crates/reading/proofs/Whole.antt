@@ -1,11 +1,10 @@
 -- The thirteen sections, stepped one after the other, are the artifact of the definition.
 use Prim.Native.Nat.{ℕ}
-use mathlib.Core.Path.{◌≡◌, refl, sym, ◌∙◌, ap}
+use mathlib.Core.Path.{◌≡◌, refl}
 use mathlib.Core.List.{List}
 use lib.ListN.{length}
 use Rattle.refusal.specs.declared.Refusal.{Refusal}
-use Rattle.grammar.specs.declared.Cursor.{Cursor}
-use Rattle.grammar.specs.Outcome.{start, Outcome, got, refused, Parser, pure, ◌>>=◌}
+use Rattle.grammar.specs.Outcome.{start, Outcome, Parser, pure, ◌>>=◌}
 use Rattle.grammar.specs.Combinators.{Text}
 use Rattle.tables.specs.Table.{With}
 use Rattle.format.specs.declared.records.NameIndex.{NameIndex}
