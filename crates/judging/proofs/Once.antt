@@ -1,18 +1,18 @@
 -- Where each table keeps all rules that look at it, none of the ten is broken.
 use Prim.Native.Nat.{ℕ, ◌+◌, ◌≤◌}
 use mathlib.Core.Path.{◌≡◌, refl}
-use mathlib.Core.Bool.{Bool, true, not, ◌&&◌, ◌||◌}
+use mathlib.Core.Bool.{Bool, true, ◌&&◌}
 use mathlib.Core.List.{List, [], ◌∷◌}
 use lib.ListN.{length}
 use lib.Dec.{ltb}
 use Rattle.format.specs.declared.answer.Used.{Used}
 use Rattle.rows.specs.Back.{cut, word}
-use Rattle.model.specs.Lent.{Lent, every, constant_rows, token_rows, assign_rows, chain_rows, step_rows, switch_rows, case_rows, range_rows, custom_rows, input_rows, function_rows, parameter_rows}
-use Rattle.model.specs.Rules.{shares_fit, lies, is_text, span_at, outside_lies, keyed, known_constant, known_chain, known_step, known_function, sound_assign, sound_chain, sound_step, sound_switch, sound_case, sound_range, sound_site, sound_input, sound_function, sound_word, rule4, rule6, rule10}
+use Rattle.model.specs.Lent.{Lent, every, constant_rows, token_rows, assign_rows, chain_rows, step_rows, switch_rows, case_rows, custom_rows, input_rows, function_rows}
+use Rattle.model.specs.Rules.{shares_fit, lies, is_text, span_at, outside_lies, keyed, known_constant, known_chain, known_step, known_function, sound_assign, sound_chain, sound_step, sound_switch, sound_case, sound_site, sound_input, sound_function, sound_word, rule4, rule6, rule10}
 use Rattle.model.specs.Written.{first_of_ten, broken_of_ten}
 use Rattle.rules.specs.Keeps.{keeps_span, keeps_text, keeps_char, keeps_constant, keeps_key, keeps_token, keeps_assign, keeps_chain, keeps_step, keeps_case, keeps_function}
 use Rattle.rules.specs.Once.{texts_keep, switches_keep, callables_keep}
-use Rattle.rules.proofs.Both.{Both, both}
+use Rattle.rules.proofs.Both.{both}
 use Rattle.judging.specs.Standing.{RowsStand}
 use Rattle.judging.proofs.Kept.{Kept}
 use Rattle.judging.proofs.Rows.{positions-lie}

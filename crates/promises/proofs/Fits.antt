@@ -1,18 +1,12 @@
 -- What was read fits the tables: the definition refuses a record for which there is no place.
-use Prim.Native.Nat.{ℕ, zero, suc, ◌+◌, ◌*◌, ◌≤◌, ◌<◌}
-use mathlib.Core.Path.{◌≡◌, refl, sym, ◌∙◌, ap}
-use mathlib.Core.Bool.{Bool, true, false}
-use mathlib.Core.List.{List, [], ◌∷◌, foldl}
+use Prim.Native.Nat.{ℕ, zero, suc, ◌+◌, ◌≤◌, ◌<◌}
+use mathlib.Core.List.{List, foldl}
 use native.Mathlib.Nat.{zero-add}
 use native.Mathlib.Omega.{arith}
 use lib.ListN.{length}
-use lib.Dec.{ltb}
-use borrow.Author.Tests.{ltb-true}
-use Rattle.refusal.specs.declared.Refusal.{Refusal}
-use Rattle.grammar.specs.declared.Cursor.{Cursor}
-use Rattle.grammar.specs.Outcome.{Outcome, got, refused, Parser, pure, ◌>>=◌, ◌>>◌}
-use Rattle.grammar.specs.Combinators.{Text, check, room, many}
-use Rattle.tables.specs.Table.{Used, behind_one, records, nested, With, count_items}
+use Rattle.grammar.specs.Outcome.{Parser, pure, ◌>>=◌}
+use Rattle.grammar.specs.Combinators.{Text, many}
+use Rattle.tables.specs.Table.{records, nested, count_items}
 use Rattle.tables.proofs.Fitting.{records-fit, nested-fit}
 use Rattle.format.specs.Artifact as A
 use Rattle.format.specs.File as definition

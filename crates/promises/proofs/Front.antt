@@ -1,5 +1,5 @@
 -- An accepted read leaves the rows in front of each table and zeros behind them.
-use Prim.Native.Nat.{ℕ, ◌-◌, ◌/◌, ◌≤◌}
+use Prim.Native.Nat.{ℕ, ◌≤◌}
 use mathlib.Core.Path.{◌≡◌, refl, subst}
 use mathlib.Core.List.{List, [], ◌∷◌, map, foldl}
 use native.Mathlib.Omega.{arith}

@@ -3,7 +3,6 @@ use Prim.Native.Nat.{ℕ, zero, suc}
 use mathlib.Core.Path.{◌≡◌, refl, sym, ◌∙◌, ap}
 use mathlib.Core.List.{List, [], ◌∷◌, map}
 use lib.ListN.{length, get_or}
-use Rattle.format.specs.Artifact.{Places}
 use Rattle.reading.specs.Answer.{places_of}
 
 length_at : (tables : List (List ℕ)) (i : ℕ) → length (get_or tables i []) ≡ get_or (map length tables) i 0

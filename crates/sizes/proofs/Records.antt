@@ -8,7 +8,6 @@ use lib.Dec.{eqb}
 use lib.ListN.{length, take, drop, length-append, length-take, length-drop}
 use Rattle.grammar.specs.Combinators.{if◌then◌else◌, put_all}
 use Rattle.grammar.specs.Number.{shortest, shortest_in, zigzag}
-use Rattle.format.specs.Artifact as A
 use Rattle.format.specs.declared.records.NameIndex.{NameIndex}
 use Rattle.format.specs.declared.records.Switch.{Switch}
 use Rattle.format.specs.declared.records.Case.{Case}

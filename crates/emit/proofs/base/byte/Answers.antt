@@ -2,7 +2,6 @@
 use native.Mathlib.Omega.{arith}
 use Rattle.emit.proofs.Laws.{puts-nowhere, puts-stored}
 use mathlib.Core.Path.{refl}
-use borrow.Author.Rules.{rules}
 use Rattle.emit.proofs.base.byte.Goals as goal
 
 pub returns-then-out-at : goal.returns-then-out-at

@@ -1,7 +1,6 @@
 -- The length of what is taken of what is left.
 use lib.ListN.{length-take, length-drop}
 use native.Mathlib.Omega.{arith}
-use borrow.Author.Rules.{rules}
 use Rattle.emit.proofs.base.clipped.Goals as goal
 
 pub returns-then-text-span : goal.returns-then-text-span

@@ -1,7 +1,6 @@
 -- Sixteen at once, of which n count, or one after the other.
 use native.Mathlib.Omega.{arith}
 use Rattle.emit.proofs.Texts.{sixteen-puts}
-use borrow.Author.Rules.{rules}
 use Rattle.emit.proofs.base.copied.Goals as goal
 
 pub returns-then-left-ge16-2 : goal.returns-then-left-ge16-2

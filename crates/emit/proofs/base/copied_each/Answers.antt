@@ -1,9 +1,7 @@
 -- The loop has copied i bytes (`Copying`).
-use Prim.Native.Nat.{◌-◌}
 use native.Mathlib.Omega.{arith}
 use Rattle.emit.proofs.Laws.{puts-nowhere}
-use Rattle.emit.proofs.Texts.{part_length, Copying, copying-none, copying-more, copying-all}
-use borrow.Author.Rules.{rules}
+use Rattle.emit.proofs.Texts.{part_length, copying-none, copying-more, copying-all}
 use Rattle.emit.proofs.base.copied_each.Goals as goal
 
 pub returns-then-left-n : goal.returns-then-left-n

@@ -2,7 +2,6 @@
 use mathlib.Core.Path.{◌∙◌, sym, ap}
 use lib.Seq.{sets}
 use Rattle.emit.proofs.Texts.{part-four}
-use borrow.Author.Rules.{rules}
 use Rattle.emit.proofs.base.copy_four.Goals as goal
 
 pub returns : goal.returns

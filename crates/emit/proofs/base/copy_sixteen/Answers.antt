@@ -1,8 +1,6 @@
 -- Four bytes, four times, each behind those before.
-use native.Mathlib.Nat.{add_assoc}
 use native.Mathlib.Omega.{arith}
 use Rattle.emit.proofs.Texts.{parts-stored}
-use borrow.Author.Rules.{rules}
 use Rattle.emit.proofs.base.copy_sixteen.Goals as goal
 
 pub returns : goal.returns

@@ -2,7 +2,6 @@
 use native.Mathlib.Omega.{arith}
 use Rattle.emit.proofs.Groups.{some_bytes}
 use Rattle.emit.proofs.Laws.{puts-nowhere, puts-stored}
-use borrow.Author.Rules.{rules}
 use Rattle.emit.proofs.base.exact.Goals as goal
 
 pub returns-then-left-size : goal.returns-then-left-size

@@ -3,7 +3,6 @@ use Prim.Native.Nat.{◌+◌}
 use mathlib.Core.Path.{ap}
 use native.Mathlib.Omega.{arith}
 use Rattle.emit.proofs.Groups.{five-few, five-puts}
-use borrow.Author.Rules.{rules}
 use Rattle.emit.proofs.base.five.Goals as goal
 
 pub overflow_add-result : goal.overflow_add-result

@@ -2,7 +2,6 @@
 use native.Mathlib.Omega.{arith}
 use lib.ListN.{length-set}
 use Rattle.emit.proofs.Texts.{sets-four}
-use borrow.Author.Rules.{rules}
 use Rattle.emit.proofs.base.four.Goals as goal
 
 pub bounds-out-at-2 : goal.bounds-out-at-2

@@ -1,5 +1,4 @@
 -- By the test.
-use native.Mathlib.Omega.{arith}
 use borrow.Author.Tests.{le-leb, lt-leb}
 use borrow.Author.Rules.{rules}
 use Rattle.emit.proofs.base.group.Goals as goal

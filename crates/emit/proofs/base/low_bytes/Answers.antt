@@ -6,7 +6,6 @@ use Rattle.grammar.specs.Combinators.{low_bytes}
 use Rattle.emit.specs.Puts.{Puts}
 use Rattle.emit.proofs.Laws.{Onward, onward-none, onward-more, onward-done}
 use native.Mathlib.Omega.{arith}
-use borrow.Author.Rules.{rules}
 use Rattle.emit.proofs.base.low_bytes.Goals as goal
 
 low-more : (left rest : ℕ) {all e out x : List ℕ} {at place next : ℕ} → Onward all e at (low_bytes left rest) out place → 0 < left →

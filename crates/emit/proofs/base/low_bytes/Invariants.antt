@@ -1,12 +1,6 @@
 -- A byte a turn: what is left of the number is still to put.
-use Prim.Native.Nat.{ℕ, zero, suc, ◌-◌, ◌/◌, ◌%◌, ◌≤◌, ◌<◌}
-use mathlib.Core.Path.{◌≡◌}
-use mathlib.Core.List.{List, [], ◌∷◌}
 use Rattle.grammar.specs.Combinators.{low_bytes}
-use Rattle.emit.specs.Puts.{Puts}
-use Rattle.emit.proofs.Laws.{Onward, onward-none, onward-more, onward-done}
-use native.Mathlib.Omega.{arith}
-use borrow.Author.Rules.{rules}
+use Rattle.emit.proofs.Laws.{Onward}
 use Rattle.emit.proofs.base.low_bytes.Given as goal
 
 abbrev pub invariant-loop-left : goal.invariant-loop-left

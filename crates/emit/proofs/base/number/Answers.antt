@@ -3,7 +3,6 @@ use mathlib.Core.Path.{sym}
 use Rattle.grammar.specs.Number.{shortest}
 use Rattle.varint.proofs.Shortest.{last-group}
 use Rattle.emit.proofs.Laws.{puts-same}
-use borrow.Author.Rules.{rules}
 use Rattle.emit.proofs.base.number.Goals as goal
 
 pub returns-then-v-lt128 : goal.returns-then-v-lt128

@@ -1,6 +1,5 @@
 -- The bytes that are there, behind their count.
 use Rattle.emit.proofs.Texts.{clip-there, clip-puts}
-use borrow.Author.Rules.{rules}
 use Rattle.emit.proofs.base.text.Goals as goal
 
 pub copied-requires : goal.copied-requires

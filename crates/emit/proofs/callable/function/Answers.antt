@@ -2,7 +2,6 @@
 use Rattle.rows.specs.Back.{word}
 use Rattle.emit.proofs.Laws.{puts-same, puts_then}
 use Rattle.emit.proofs.Fields.{access-word}
-use borrow.Author.Rules.{rules}
 use Rattle.emit.proofs.callable.function.Goals as goal
 
 pub returns : goal.returns

@@ -1,6 +1,5 @@
 -- One field behind another.
 use Rattle.emit.proofs.Laws.{puts_then}
-use borrow.Author.Rules.{rules}
 use Rattle.emit.proofs.callable.input.Goals as goal
 
 pub returns : goal.returns

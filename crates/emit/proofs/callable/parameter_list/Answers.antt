@@ -1,12 +1,6 @@
 -- The rows before j are put (`Listing`).
-use Prim.Native.Nat.{◌+◌, ◌*◌, ◌-◌}
 use mathlib.Core.Path.{◌∙◌}
-use lib.ListN.{drop}
-use Rattle.grammar.specs.Combinators.{put_all}
-use Rattle.written.specs.Put.{put_name}
-use Rattle.rows.specs.Back.{records_of, parameter_of}
-use Rattle.emit.proofs.Listing.{Listing, listing-from, listing-row, listing-more, listed-from}
-use borrow.Author.Rules.{rules}
+use Rattle.emit.proofs.Listing.{listing-from, listing-row, listing-more, listed-from}
 use Rattle.emit.proofs.callable.parameter_list.Goals as goal
 
 pub loop-j-init : goal.loop-j-init

@@ -1,13 +1,8 @@
 -- The records before j are put, each with its share of the items (`Sharing`).
-use Prim.Native.Nat.{◌-◌}
 use mathlib.Core.Path.{refl, ◌∙◌, ap}
-use Rattle.grammar.specs.Combinators.{put_all}
-use Rattle.written.specs.Put.{put_site}
-use Rattle.rows.specs.Back.{site_of, input_of}
-use Rattle.emit.specs.Shares.{sites_of}
-use Rattle.emit.proofs.Sharing.{Sharing, sharing-none, sharing-row, sharing-items, sharing-more, shared-all}
+use Rattle.rows.specs.Back.{site_of}
+use Rattle.emit.proofs.Sharing.{sharing-none, sharing-row, sharing-items, sharing-more, shared-all}
 use native.Mathlib.Omega.{arith}
-use borrow.Author.Rules.{rules}
 use Rattle.emit.proofs.callable.sites.Goals as goal
 
 pub loop-j-init : goal.loop-j-init

@@ -3,7 +3,6 @@ use Rattle.rows.specs.Back.{chain_of}
 use Rattle.emit.specs.Shares.{chain_from}
 use Rattle.emit.proofs.Laws.{puts-same, puts_then}
 use Rattle.emit.proofs.Stripping.{chain-in}
-use borrow.Author.Rules.{rules}
 use Rattle.emit.proofs.chain.chain.Goals as goal
 
 pub returns : goal.returns

@@ -1,15 +1,11 @@
 -- The records before j are put, each with its share of the items (`Sharing`).
-use Prim.Native.Nat.{◌-◌}
 use mathlib.Core.Path.{refl, ◌∙◌, ap}
-use Rattle.grammar.specs.Combinators.{put_all}
-use Rattle.emit.specs.Ways.{put_chain_in}
 use Rattle.emit.proofs.Laws.{puts-same}
 use Rattle.emit.proofs.Stripping.{chains-in}
-use Rattle.rows.specs.Back.{chain_of, step_of}
+use Rattle.rows.specs.Back.{chain_of}
 use Rattle.emit.specs.Shares.{chains_of}
-use Rattle.emit.proofs.Sharing.{Sharing, sharing-none, sharing-row, sharing-items, sharing-more, shared-all}
+use Rattle.emit.proofs.Sharing.{sharing-none, sharing-row, sharing-items, sharing-more, shared-all}
 use native.Mathlib.Omega.{arith}
-use borrow.Author.Rules.{rules}
 use Rattle.emit.proofs.chain.chains.Goals as goal
 
 pub loop-j-init : goal.loop-j-init

@@ -1,7 +1,6 @@
 -- One field behind another.
 use Rattle.emit.proofs.Laws.{puts-same, puts_then}
 use Rattle.emit.proofs.Stripping.{method-in}
-use borrow.Author.Rules.{rules}
 use Rattle.emit.proofs.chain.method.Goals as goal
 
 pub returns : goal.returns

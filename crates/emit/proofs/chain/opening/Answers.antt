@@ -1,6 +1,5 @@
 -- One byte behind the other.
 use Rattle.emit.proofs.Laws.{puts_then}
-use borrow.Author.Rules.{rules}
 use Rattle.emit.proofs.chain.opening.Goals as goal
 
 pub returns : goal.returns

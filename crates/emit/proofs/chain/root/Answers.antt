@@ -2,7 +2,6 @@
 use borrow.Author.Tests.{eq-eqb, ne_eqb}
 use Rattle.emit.proofs.Laws.{puts-same, puts_then}
 use Rattle.emit.proofs.Stripping.{local-in, temporary-in, named_in, this-in}
-use borrow.Author.Rules.{rules}
 use Rattle.emit.proofs.chain.root.Goals as goal
 
 pub returns-then-tag : goal.returns-then-tag

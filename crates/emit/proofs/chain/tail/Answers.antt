@@ -1,7 +1,6 @@
 -- By the tag, as the definition tests it.
 use borrow.Author.Tests.{eq-eqb, ne_eqb}
 use Rattle.emit.proofs.Laws.{puts_then}
-use borrow.Author.Rules.{rules}
 use Rattle.emit.proofs.chain.tail.Goals as goal
 
 pub returns-then-tag : goal.returns-then-tag

@@ -2,7 +2,6 @@
 use Rattle.format.specs.Artifact.{levels}
 use Rattle.emit.proofs.Growing.{tops-puts}
 use Rattle.emit.proofs.Standing.{fit-stand}
-use borrow.Author.Rules.{rules}
 use Rattle.emit.proofs.constant.constants.Goals as goal
 
 pub items-all-requires : goal.items-all-requires

@@ -3,7 +3,6 @@ use mathlib.Core.Bool.{true, false}
 use mathlib.Core.Path.{sym, ◌∙◌}
 use Rattle.emit.proofs.Laws.{puts-same, puts_none}
 use Rattle.emit.proofs.Tags.{foot-told}
-use borrow.Author.Rules.{rules}
 use Rattle.emit.proofs.constant.foot.Goals as goal
 
 pub returns-then-pointer : goal.returns-then-pointer

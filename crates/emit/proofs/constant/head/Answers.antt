@@ -1,6 +1,5 @@
 -- By the tag, as the definition tests it.
 use borrow.Author.Tests.{eq-eqb, ne_eqb}
-use borrow.Author.Rules.{rules}
 use Rattle.emit.proofs.constant.head.Goals as goal
 
 pub returns-then-tag : goal.returns-then-tag

@@ -1,6 +1,5 @@
 -- By the answer.
 use Rattle.emit.proofs.Laws.{puts_none}
-use borrow.Author.Rules.{rules}
 use Rattle.emit.proofs.constant.key.Goals as goal
 
 pub returns-then-keys : goal.returns-then-keys

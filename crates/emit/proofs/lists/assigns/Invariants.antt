@@ -1,12 +1,10 @@
 -- The rows before j are put (`Listing`).
 use Prim.Native.Nat.{◌-◌}
-use mathlib.Core.Path.{◌∙◌}
 use Rattle.grammar.specs.Combinators.{put_all}
 use Rattle.written.specs.Put.{put_assign}
 use Rattle.model.specs.Tables.{assign_means}
 use Rattle.rows.specs.Back.{records_of, assign_of}
-use Rattle.emit.proofs.Listing.{Listing, listing-all, listing-row, listing-more, listed-all}
-use borrow.Author.Rules.{rules}
+use Rattle.emit.proofs.Listing.{Listing}
 use Rattle.emit.proofs.lists.assigns.Given as goal
 
 abbrev pub invariant-loop-j : goal.invariant-loop-j

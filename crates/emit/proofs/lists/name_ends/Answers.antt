@@ -1,11 +1,6 @@
 -- The rows before j are put (`Listing`).
-use Prim.Native.Nat.{◌-◌}
 use mathlib.Core.Path.{◌∙◌}
-use Rattle.grammar.specs.Combinators.{put_all}
-use Rattle.grammar.specs.Number.{shortest}
-use Rattle.rows.specs.Back.{records_of, end_of}
-use Rattle.emit.proofs.Listing.{Listing, listing-all, listing-row, listing-more, listed-all}
-use borrow.Author.Rules.{rules}
+use Rattle.emit.proofs.Listing.{listing-all, listing-row, listing-more, listed-all}
 use Rattle.emit.proofs.lists.name_ends.Goals as goal
 
 pub loop-j-init : goal.loop-j-init

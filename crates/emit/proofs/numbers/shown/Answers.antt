@@ -1,5 +1,4 @@
 -- By the way asked.
-use borrow.Author.Rules.{rules}
 use Rattle.emit.proofs.numbers.shown.Goals as goal
 
 pub returns-else-strip : goal.returns-else-strip

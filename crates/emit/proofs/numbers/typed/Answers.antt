@@ -1,6 +1,5 @@
 -- 0 or not.
 use borrow.Author.Tests.{eq-eqb, ne_eqb}
-use borrow.Author.Rules.{rules}
 use Rattle.emit.proofs.numbers.typed.Goals as goal
 
 pub returns-then-w-eq0 : goal.returns-then-w-eq0

@@ -1,7 +1,6 @@
 -- By the tag.
 use Rattle.rows.specs.Back.{word}
 use Rattle.emit.proofs.Tags.{keys-by}
-use borrow.Author.Rules.{rules}
 use Rattle.emit.proofs.owning.has_keys.Goals as goal
 
 pub returns : goal.returns

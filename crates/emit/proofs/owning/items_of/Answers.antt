@@ -2,7 +2,6 @@
 use mathlib.Core.Bool.{true, false}
 use mathlib.Core.Path.{sym, ◌∙◌}
 use Rattle.emit.proofs.Tags.{items-told}
-use borrow.Author.Rules.{rules}
 use Rattle.emit.proofs.owning.items_of.Goals as goal
 
 pub returns-then-listed : goal.returns-then-listed

@@ -1,5 +1,4 @@
 -- By the tag.
-use borrow.Author.Rules.{rules}
 use Rattle.emit.proofs.owning.listed.Goals as goal
 
 pub returns : goal.returns

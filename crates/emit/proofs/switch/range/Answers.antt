@@ -2,7 +2,6 @@
 use Rattle.emit.proofs.Laws.{puts-same, puts_then}
 use Rattle.emit.proofs.Fields.{inclusive-word}
 use Rattle.rows.specs.Back.{word}
-use borrow.Author.Rules.{rules}
 use Rattle.emit.proofs.switch.range.Goals as goal
 
 pub returns : goal.returns

@@ -1,12 +1,10 @@
 -- The rows before j are put (`Listing`).
 use Prim.Native.Nat.{◌+◌, ◌*◌, ◌-◌}
-use mathlib.Core.Path.{◌∙◌}
 use lib.ListN.{drop}
 use Rattle.grammar.specs.Combinators.{put_all}
 use Rattle.written.specs.Put.{put_range}
 use Rattle.rows.specs.Back.{records_of, range_of}
-use Rattle.emit.proofs.Listing.{Listing, listing-from, listing-row, listing-more, listed-from}
-use borrow.Author.Rules.{rules}
+use Rattle.emit.proofs.Listing.{Listing}
 use Rattle.emit.proofs.switch.range_list.Given as goal
 
 abbrev pub invariant-loop-j : goal.invariant-loop-j

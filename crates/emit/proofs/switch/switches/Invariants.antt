@@ -1,13 +1,9 @@
 -- The switches before j are put, each with its shares of the cases and of the ranges (`Switching`).
 use Prim.Native.Nat.{◌-◌}
-use mathlib.Core.Path.{◌∙◌, ap}
 use Rattle.grammar.specs.Combinators.{put_all}
 use Rattle.written.specs.Put.{put_switch}
-use Rattle.rows.specs.Back.{switch_of}
 use Rattle.emit.specs.Shares.{switches_of}
-use Rattle.emit.proofs.Switching.{Switching, switching-none, switching-row, switching-cases, switching-ranges, switching-more, switched-all}
-use native.Mathlib.Omega.{arith}
-use borrow.Author.Rules.{rules}
+use Rattle.emit.proofs.Switching.{Switching}
 use Rattle.emit.proofs.switch.switches.Given as goal
 
 abbrev pub invariant-loop-j : goal.invariant-loop-j

@@ -1,5 +1,4 @@
 -- The byte of the word.
-use borrow.Author.Rules.{rules}
 use Rattle.emit.proofs.words.flag.Goals as goal
 
 pub returns : goal.returns

@@ -1,7 +1,6 @@
 -- The number that the flag and the word say.
 use Rattle.emit.proofs.Laws.{puts-same}
 use Rattle.emit.proofs.Fields.{literal-word}
-use borrow.Author.Rules.{rules}
 use Rattle.emit.proofs.words.literal.Goals as goal
 
 pub returns : goal.returns

@@ -1,7 +1,6 @@
 -- Two smalls, as the way asked has them.
 use Rattle.emit.proofs.Laws.{puts-same, puts_then}
 use Rattle.emit.proofs.Stripping.{position_in_lem}
-use borrow.Author.Rules.{rules}
 use Rattle.emit.proofs.words.position.Goals as goal
 
 pub returns : goal.returns

@@ -1,5 +1,4 @@
 -- The number of the word.
-use borrow.Author.Rules.{rules}
 use Rattle.emit.proofs.words.signed.Goals as goal
 
 pub returns : goal.returns

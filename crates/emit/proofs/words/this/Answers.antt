@@ -1,7 +1,6 @@
 -- The number that the word says.
 use Rattle.emit.proofs.Laws.{puts-same}
 use Rattle.emit.proofs.Fields.{this-word}
-use borrow.Author.Rules.{rules}
 use Rattle.emit.proofs.words.this.Goals as goal
 
 pub returns : goal.returns

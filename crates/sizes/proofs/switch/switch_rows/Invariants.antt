@@ -1,0 +1,12 @@
+-- The rows before j are counted (`Flat`).
+use Rattle.rows.specs.Back.{switch_of}
+use Rattle.sizes.specs.Own.{own_switch}
+use Prim.Native.Nat.{◌-◌}
+use Rattle.sizes.proofs.Flat.{Flat}
+use Rattle.sizes.proofs.switch.switch_rows.Given as goal
+
+abbrev pub invariant-loop-j : goal.invariant-loop-j
+invariant-loop-j l = Flat own_switch 3 switch_of l.t l.at l.used l.j l.place
+
+abbrev pub decreases-loop-j : goal.decreases-loop-j
+decreases-loop-j l = l.used - l.j
