@@ -127,7 +127,7 @@ module _ (places : A.Places) (mask : ℕ) (s : List ℕ) (a : A.Artifact) (table
       (both (each_row M.known_constant (λ row ok. ok.known))
       (every-row held.chains M.known_chain (each (λ w _. records.known-chain w.whole) a.chains well.chains.list.each)))
       (both (every-item (λ w. w.items) a.chains held.steps (M.known_step mask)
-      (each (λ w ok. each (records.known_step mask) w.items ok.fits.items) a.chains well.chains.list.each))
+      (each (λ w ok. each (records.known_step_lem mask) w.items ok.fits.items) a.chains well.chains.list.each))
       (every-row held.functions M.known_function (each (λ w _. records.known-function w.whole) a.functions well.functions.list.each)))
 
   holds6 : M.rule6 (lent_of (outside a) tables s) ≡ true

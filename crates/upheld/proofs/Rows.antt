@@ -12,7 +12,7 @@ use Rattle.grammar.specs.Combinators.{Each}
 use Rattle.rows.specs.Back.{end_of, cut}
 use Rattle.written.specs.WellFormed.{WellString}
 use Rattle.model.specs.Lent.{clip}
-use Rattle.model.specs.Rules.{fits, lies, is_text, sound_word}
+use Rattle.model.specs.Rules.{lies, is_text, sound_word}
 use Rattle.upheld.specs.Native.{Slice}
 
 -- ── words ──
