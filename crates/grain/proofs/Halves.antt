@@ -1,6 +1,6 @@
 -- The halves of a number of 128 bits are those that it was made of.
 use Prim.Native.Nat.{ℕ, ◌+◌, ◌*◌, ◌<◌, ◌^◌}
-use mathlib.Core.Path.{◌≡◌, sym, ap, ◌∙◌}
+use mathlib.Core.Path.{◌≡◌}
 use mathlib.Core.List.{[], ◌∷◌}
 use lib.Arith.{digits_div, digits_mod}
 use Rattle.grain.specs.Positions.{halves_of}

@@ -1,6 +1,5 @@
 -- What `grain_write` tells, from what the writer answered.
 use Prim.Native.Nat.{ℕ}
-use mathlib.Core.Bool.{Bool}
 use mathlib.Core.Path.{◌≡◌, ◌∙◌, ap}
 use mathlib.Core.List.{List}
 use Rattle.refusal.specs.declared.Row.{Row}

@@ -7,6 +7,6 @@
 mod answer;
 mod heading;
 pub mod numbers;
-mod positions;
-mod read;
-mod write;
+pub mod positions;
+pub mod read;
+pub mod write;

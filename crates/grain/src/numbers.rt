@@ -27,8 +27,7 @@ pub fn put_pair(out: &mut [u64; 2], value: u64, at: usize)
 }
 
 // An unsigned number of 64 bits: its value and the next place; where it is refused, 0 and the place where it began.
-#[unsafe(no_mangle)]
-pub extern "C" fn grain_number(bytes: &[u8], at: usize, out: &mut [u64; 2]) -> u64
+pub fn grain_number(bytes: &[u8], at: usize, out: &mut [u64; 2]) -> u64
     ensures value { result ≡ answer (number_at 64 bytes.now at) }
     ensures out_after { out.new ≡ pair_or at (number_at 64 bytes.now at) }
 {
@@ -45,8 +44,7 @@ pub extern "C" fn grain_number(bytes: &[u8], at: usize, out: &mut [u64; 2]) -> u
 }
 
 // 1 where the bytes are UTF-8, else 0.
-#[unsafe(no_mangle)]
-pub extern "C" fn grain_utf8(bytes: &[u8]) -> u64
+pub fn grain_utf8(bytes: &[u8]) -> u64
     ensures { result ≡ cond (is_utf8 bytes.now) 1 0 }
 {
     utf8::is_utf8(bytes) as u64

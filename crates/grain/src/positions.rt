@@ -45,8 +45,7 @@ fn encoded_row(c: Encoded) -> Row
     }
 }
 
-#[unsafe(no_mangle)]
-pub extern "C" fn grain_pos_check(table: &[u8], values: &mut [u64; 2]) -> u64
+pub fn grain_pos_check(table: &[u8], values: &mut [u64; 2]) -> u64
     ensures value { result ≡ (checked_row (checked table.now)).number }
     ensures values_after { values.new ≡ values_of (checked_row (checked table.now)) }
 {
@@ -56,8 +55,7 @@ pub extern "C" fn grain_pos_check(table: &[u8], values: &mut [u64; 2]) -> u64
 }
 
 // The entries that the table says it has; where that is refused, 0.
-#[unsafe(no_mangle)]
-pub extern "C" fn grain_pos_count(table: &[u8], count: &mut u64) -> u64
+pub fn grain_pos_count(table: &[u8], count: &mut u64) -> u64
     ensures value { result ≡ counted_answer (counted table.now) }
     ensures count_after { count.new ≡ count_or (counted table.now) }
 {
@@ -74,8 +72,7 @@ pub extern "C" fn grain_pos_count(table: &[u8], count: &mut u64) -> u64
 }
 
 // 1 and line and column where there is a site; 0 and zeros where there is none.
-#[unsafe(no_mangle)]
-pub extern "C" fn grain_pos_resolve(table: &[u8], address: u32, site: &mut [u64; 2]) -> u64
+pub fn grain_pos_resolve(table: &[u8], address: u32, site: &mut [u64; 2]) -> u64
     ensures value { result ≡ found (resolved table.now address) }
     ensures site_after { site.new ≡ site_values (resolved table.now address) }
 {
@@ -92,8 +89,7 @@ pub extern "C" fn grain_pos_resolve(table: &[u8], address: u32, site: &mut [u64;
 }
 
 // The bytes written are the first value.
-#[unsafe(no_mangle)]
-pub extern "C" fn grain_pos_encode(
+pub fn grain_pos_encode(
     addresses: &[u32],
     lines: &[u32],
     columns: &[u32],
@@ -110,8 +106,7 @@ pub extern "C" fn grain_pos_encode(
 }
 
 // The low half, then the high half. Nothing is refused: the answer is 0.
-#[unsafe(no_mangle)]
-pub extern "C" fn grain_debug_id(table: &[u8], chains: &[u8], id: &mut [u64; 2]) -> u64
+pub fn grain_debug_id(table: &[u8], chains: &[u8], id: &mut [u64; 2]) -> u64
     ensures value { result ≡ 0 }
     ensures id_after { id.new ≡ halves_of (debug_id table.now chains.now) }
 {

@@ -6,8 +6,7 @@ use crate::answer;
 use reading::read;
 
 // Thirteen tables of words are lent, and the 32 words of the answer. A refusal leaves every word of the tables zero.
-#[unsafe(no_mangle)]
-pub extern "C" fn grain_read(
+pub fn grain_read(
     bytes: &[u8],
     mask: u8,
     names: &mut [u64],

@@ -20,8 +20,7 @@ fn written_row(w: Written) -> Row
 
 // The words that `grain_read` answers, thirteen tables and the text are lent to be looked at, the output to be written in. A refusal
 // leaves the output untouched.
-#[unsafe(no_mangle)]
-pub extern "C" fn grain_write(
+pub fn grain_write(
     heading: &[u64; 32],
     names: &[u64],
     constants: &[u64],
