@@ -100,9 +100,9 @@ overflow_add-at-else-step-table-lt128-2-6 c =
 moves : (c : Joined-step-table-lt128) → Moves c.args.table.now c.loop-left.at (get_or c.args.table.now c.loop-left.at 0) c.if-step-table-lt128.at
 moves c =
     elim c.if-step-table-lt128.branch [
-      then-step-table-lt128 w ↦ record { size = 3; entry = plain-three _ _ (omega arith) w.if-step-table-lt128.true; is = w.at-is; inside = omega (arith, w.at-is) }
-    | else-step-table-lt128+else-rest-le3+then-step-table-lt128-2 w ↦ record { size = 4; entry = plain-four _ _ (omega arith) w.if-step-table-lt128.false (omega (arith, c.type_inv.table (c.loop-left.at + 1))) w.if-step-table-lt128-2.true; is = w.at-is; inside = omega arith }
-    | else-step-table-lt128+else-rest-le3+else-step-table-lt128-2+else-rest-le4+else-step-table-ge128+else-table-at-lt128 w ↦ record { size = 5; entry = plain-five _ _ (omega arith) w.if-step-table-ge128.false w.if-table-at-lt128.false (omega (arith, c.type_inv.table (c.loop-left.at + 1))) (omega (arith, c.type_inv.table (c.loop-left.at + 2))); is = w.at-is; inside = omega arith }
+      | then-step-table-lt128 w ↦ record { size = 3; entry = plain-three _ _ (omega arith) w.if-step-table-lt128.true; is = w.at-is; inside = omega (arith, w.at-is) }
+      | else-step-table-lt128+else-rest-le3+then-step-table-lt128-2 w ↦ record { size = 4; entry = plain-four _ _ (omega arith) w.if-step-table-lt128.false (omega (arith, c.type_inv.table (c.loop-left.at + 1))) w.if-step-table-lt128-2.true; is = w.at-is; inside = omega arith }
+      | else-step-table-lt128+else-rest-le3+else-step-table-lt128-2+else-rest-le4+else-step-table-ge128+else-table-at-lt128 w ↦ record { size = 5; entry = plain-five _ _ (omega arith) w.if-step-table-ge128.false w.if-table-at-lt128.false (omega (arith, c.type_inv.table (c.loop-left.at + 1))) (omega (arith, c.type_inv.table (c.loop-left.at + 2))); is = w.at-is; inside = omega arith }
     ]
 
 pub loop-left-preserved : goal.loop-left-preserved
