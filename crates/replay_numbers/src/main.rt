@@ -9,11 +9,14 @@
 ghost use Rattle.std.specs.Prelude.{◌≤◌, length};
 ghost use Rattle.io.specs.Counts.{IsPrefixLen};
 
-use bytes::scan;
 use grammar::Cursor;
-use libc::{STDIN_FILENO, STDOUT_FILENO};
 use refusal::Refusal;
 use varint::{ReadIndex, ReadNumber, ReadSigned, ReadSmall, Written};
+
+// The descriptors of standard input and output.
+const STDIN_FILENO: i32 = 0;
+
+const STDOUT_FILENO: i32 = 1;
 
 // What stands for no digit.
 const NO_DIGIT: u8 = 16;
@@ -213,9 +216,21 @@ fn answer(word: &[u8], given: &[u8]) {
     say(b"\n");
 }
 
+// Where a byte stands from a place on, or the end where it does not.
+fn find(bytes: &[u8], from: usize, byte: u8) -> usize
+    requires { from ≤ length bytes.now }
+    ensures low { from ≤ result }
+    ensures high { result ≤ length bytes.now }
+{
+    match bytes[from..].iter().position(|b| *b == byte) {
+        Some(k) => from + k,
+        None => bytes.len(),
+    }
+}
+
 // A line's word ends at its first space, and what the word is given stands behind that.
 fn of_line(line: &[u8]) {
-    let end = scan::find(line, 0, line.len(), b' ');
+    let end = find(line, 0, b' ');
     if end < line.len() {
         let start = end + 1;
         answer(&line[..end], &line[start..]);
@@ -227,7 +242,7 @@ fn of_line(line: &[u8]) {
 fn of_list(list: &[u8]) {
     let mut at: usize = 0;
     while at < list.len() {
-        let end = scan::find(list, at, list.len(), b'\n');
+        let end = find(list, at, b'\n');
         of_line(&list[at..end]);
         at = end + 1;
     }
