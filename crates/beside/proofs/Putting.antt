@@ -1,11 +1,11 @@
 -- What put's answer says: how many bytes the shortest form takes.
+use Rattle.std.proofs.Common.{if◌then◌else◌}
 use Prim.Native.Nat.{ℕ}
 use mathlib.Core.Path.{◌≡◌}
 use mathlib.Core.Bool.{Bool, true, false}
 use lib.Dec.{leb}
 use lib.ListN.{length}
 use Rattle.refusal.specs.declared.Refusal.{Refusal}
-use Rattle.grammar.specs.Combinators.{if◌then◌else◌}
 use Rattle.grammar.specs.Number.{shortest}
 use Rattle.varint.specs.declared.Written.{Written}
 use Rattle.varint.specs.Answers.{written_is}

@@ -1,9 +1,8 @@
 -- What a read of a record with items answers and leaves, and the rests of such records behind their first fields.
-use Rattle.std.specs.Prelude.{ℕ, ◌+◌, ◌*◌, ◌≡◌, List, length, eqb}
+use Rattle.std.specs.Prelude.{ℕ, ◌+◌, ◌*◌, ◌≡◌, List, length, eqb, if◌then◌else◌}
 use Rattle.std.proofs.lemmas.List.Edits.{sets}
 use Rattle.grammar.specs.declared.Cursor.{Cursor}
 use Rattle.grammar.specs.Outcome.{Outcome, got, refused, Parser, pure, ◌>>=◌}
-use Rattle.grammar.specs.Combinators.{if◌then◌else◌}
 use Rattle.tables.specs.Table.{rows, With}
 use Rattle.format.specs.declared.records.NameIndex.{NameIndex}
 use Rattle.format.specs.declared.records.Literal.{Literal}

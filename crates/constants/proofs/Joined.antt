@@ -1,4 +1,5 @@
 -- Head, items and tail, one after the other, are the definition's constant.
+use Rattle.std.proofs.Common.{if◌then◌else◌}
 use Prim.Native.Nat.{ℕ, suc, ◌+◌}
 use mathlib.Core.Path.{◌≡◌, refl}
 use mathlib.Core.Bool.{Bool, true, false}
@@ -8,7 +9,7 @@ use Rattle.refusal.specs.declared.Refusal.{Refusal}
 use Rattle.refusal.specs.declared.Place.{Place}
 use Rattle.grammar.specs.declared.Cursor.{Cursor}
 use Rattle.grammar.specs.Outcome.{Outcome, got, refused, Parser, after, pure, refuse, ◌>>=◌, ◌>>◌}
-use Rattle.grammar.specs.Combinators.{if◌then◌else◌, byte, fixed, Text, check, room, ◌⇒◌∣◌, unknown, many}
+use Rattle.grammar.specs.Combinators.{byte, fixed, Text, check, room, ◌⇒◌∣◌, unknown, many}
 use Rattle.grammar.specs.Number.{number, index, signed}
 use Rattle.format.specs.Artifact as A
 use Rattle.format.specs.File.{bytes, string, scalar, kind, constant}

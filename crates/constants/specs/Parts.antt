@@ -1,11 +1,11 @@
 -- A constant in three parts, as the code reads it: what stands before its items, the items with or without keys, and what
 -- stands behind them. `proofs/Joined.antt` shows that the three are the definition's `constant`.
-use Rattle.std.specs.Prelude.{ℕ, Bool, true, false, List, [], ℤ}
+use Rattle.std.specs.Prelude.{ℕ, Bool, true, false, List, [], ℤ, if◌then◌else◌}
 use Rattle.refusal.specs.declared.Refusal.{Refusal}
 use Rattle.refusal.specs.declared.Place.{Place}
 use Rattle.grammar.specs.declared.Span.{Span}
 use Rattle.grammar.specs.Outcome.{Parser, pure, ◌>>=◌, ◌>>◌}
-use Rattle.grammar.specs.Combinators.{if◌then◌else◌, byte, fixed, Text, check, ◌⇒◌∣◌, unknown, many}
+use Rattle.grammar.specs.Combinators.{byte, fixed, Text, check, ◌⇒◌∣◌, unknown, many}
 use Rattle.grammar.specs.Number.{number, index, signed}
 use Rattle.format.specs.Artifact as A
 use Rattle.format.specs.File.{bytes, string, scalar, constant}

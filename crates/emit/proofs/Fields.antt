@@ -1,4 +1,5 @@
 -- What is put of a word, as of the field that it stands for.
+use Rattle.std.proofs.Common.{if◌then◌else◌}
 use Prim.Native.Nat.{ℕ, suc, ◌+◌, ◌*◌, ◌-◌, ◌%◌, ◌^◌, ◌≤◌, ◌<◌}
 use mathlib.Core.Bool.{Bool, true, false, not}
 use mathlib.Core.Path.{◌≡◌, refl, sym, ◌∙◌, ap}
@@ -9,7 +10,6 @@ use lib.Dec.{eqb}
 use mir.Syntax.{w64}
 use mir.Val.{to_z}
 use mir.ValLaws.{to_z_pos, to_z-neg}
-use Rattle.grammar.specs.Combinators.{if◌then◌else◌}
 use Rattle.grammar.specs.Number.{shortest, shortest_in, zigzag}
 use Rattle.varint.proofs.Halves.{doubled, doubled-one}
 use Rattle.format.specs.declared.records.Literal.{Literal}

@@ -1,4 +1,5 @@
 -- The groups of a number that has at most five, each with the mark that says whether more follow: its shortest form, and what is stored behind it.
+use Rattle.std.proofs.Common.{if◌then◌else◌}
 use Prim.Native.Nat.{ℕ, zero, suc, ◌+◌, ◌/◌, ◌%◌, ◌^◌, ◌≤◌, ◌<◌}
 use mathlib.Core.Path.{◌≡◌, refl, sym, ◌∙◌, ap}
 use mathlib.Core.Bool.{Bool, true, false}
@@ -9,7 +10,6 @@ use borrow.Author.Tests.{le-leb, lt-leb, ltb-true, ltb-false}
 use lib.Dec.{leb, ltb}
 use lib.ListN.{length, set, take, drop, take-append-drop, length-take}
 use lib.Seq.{sets}
-use Rattle.grammar.specs.Combinators.{if◌then◌else◌}
 use Rattle.grammar.specs.Number.{shortest, shortest_in}
 use Rattle.varint.proofs.Shortest.{more-group, last-group}
 use Rattle.tables.proofs.Stores.{sets-append}

@@ -1,5 +1,6 @@
 -- In the way asked: a position from its line and column, roots and steps from their fields, a chain from its parts, and chains from
 -- chain by chain.
+use Rattle.std.proofs.Common.{if◌then◌else◌}
 use Prim.Native.Nat.{ℕ, zero, suc}
 use mathlib.Core.Bool.{Bool, true, false}
 use mathlib.Core.Path.{◌≡◌, refl}
@@ -7,7 +8,6 @@ use mathlib.Core.List.{List, ◌++◌}
 use native.Mathlib.Omega.{arith}
 use lib.Dec.{eqb}
 use borrow.Author.Tests.{ne_eqb}
-use Rattle.grammar.specs.Combinators.{if◌then◌else◌}
 use Rattle.grammar.specs.Number.{shortest}
 use Rattle.tables.specs.Table.{With}
 use Rattle.format.specs.declared.records.Root.{Root}

@@ -1,4 +1,5 @@
 -- Constants by their tag: what a row's words say of its constant, tag by tag.
+use Rattle.std.proofs.Common.{if◌then◌else◌}
 use Prim.Native.Nat.{ℕ, zero, suc, ◌≤◌, ◌<◌}
 use mathlib.Core.Bool.{Bool, true, false}
 use mathlib.Core.Path.{◌≡◌, refl}
@@ -6,7 +7,6 @@ use mathlib.Core.List.{List, []}
 use native.Mathlib.Omega.{arith}
 use borrow.Author.Tests.{ne_eqb, lt-ltb}
 use lib.Dec.{eqb}
-use Rattle.grammar.specs.Combinators.{if◌then◌else◌}
 use Rattle.rows.specs.declared.constants.Constant.{Constant}
 use Rattle.rows.specs.Back.{word, index, signed, text_of, pointer_of, kind_of, constant_of}
 use Rattle.rows.specs.Tree.{items_of, kind}

@@ -1,7 +1,7 @@
 -- Constants, row by row: what stands before a constant's items and behind them, and a run of constants with all that they own.
-use Rattle.std.specs.Prelude.{ℕ, zero, suc, ◌*◌, ◌-◌, ◌≤◌, Bool, true, false, ◌≡◌, List, [], ◌∷◌, ◌++◌, map, length, drop}
+use Rattle.std.specs.Prelude.{ℕ, zero, suc, ◌*◌, ◌-◌, ◌≤◌, Bool, true, false, ◌≡◌, List, [], ◌∷◌, ◌++◌, map, length, drop, if◌then◌else◌}
 use Rattle.grammar.specs.declared.Span.{Span}
-use Rattle.grammar.specs.Combinators.{if◌then◌else◌, low_bytes, put_all}
+use Rattle.grammar.specs.Combinators.{low_bytes, put_all}
 use Rattle.grammar.specs.Number.{shortest, zigzag}
 use Rattle.format.specs.Artifact as A
 use Rattle.rows.specs.declared.constants.Constant.{Constant}

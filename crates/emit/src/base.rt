@@ -1,7 +1,7 @@
 // Bytes, numbers and texts.
-ghost use Rattle.std.specs.Prelude.{◌≡◌, [], ◌∷◌, ◌+◌, ◌-◌, ◌%◌, ◌≤◌, ◌<◌, leb, length, take, drop};
+ghost use Rattle.std.specs.Prelude.{◌≡◌, [], ◌∷◌, ◌+◌, ◌-◌, ◌%◌, ◌≤◌, ◌<◌, leb, length, take, drop, if◌then◌else◌};
 ghost use Rattle.std.proofs.lemmas.List.Edits.{sets};
-ghost use Rattle.grammar.specs.Combinators.{if◌then◌else◌, low_bytes};
+ghost use Rattle.grammar.specs.Combinators.{low_bytes};
 ghost use Rattle.grammar.specs.Number.{shortest};
 ghost use Rattle.written.specs.Put.{put_bytes};
 ghost use Rattle.model.specs.Lent.{clip};

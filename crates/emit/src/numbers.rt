@@ -1,6 +1,5 @@
 // The number that is written for a word of a row.
-ghost use Rattle.std.specs.Prelude.{◌≡◌, ◌+◌, ◌-◌, eqb};
-ghost use Rattle.grammar.specs.Combinators.{if◌then◌else◌};
+ghost use Rattle.std.specs.Prelude.{◌≡◌, ◌+◌, ◌-◌, eqb, if◌then◌else◌};
 ghost use Rattle.grammar.specs.Number.{zigzag};
 ghost use Rattle.rows.specs.Back as definition;
 

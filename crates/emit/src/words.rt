@@ -1,6 +1,5 @@
 // The words of a row, each as what it holds.
-ghost use Rattle.std.specs.Prelude.{[], ◌∷◌, eqb};
-ghost use Rattle.grammar.specs.Combinators.{if◌then◌else◌};
+ghost use Rattle.std.specs.Prelude.{[], ◌∷◌, eqb, if◌then◌else◌};
 ghost use Rattle.grammar.specs.Number.{shortest, zigzag};
 ghost use Rattle.rows.specs.Back as definition;
 ghost use Rattle.written.specs.Put.{put_bytes, put_chunk, put_literal, put_position, put_this};

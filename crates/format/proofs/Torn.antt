@@ -1,4 +1,5 @@
 -- Torn copies, by the definition of the file: every shorter front of an accepted artifact is Truncated, and n more bytes behind it are TrailingBytes n.
+use Rattle.std.proofs.Common.{if◌then◌else◌}
 use Prim.Native.Nat.{ℕ, ◌≤◌, ◌<◌}
 use mathlib.Core.Path.{◌≡◌, refl, sym, ◌∙◌}
 use mathlib.Core.Bool.{Bool, true, false}
@@ -10,7 +11,7 @@ use borrow.Author.Tests.{le-ltb, ltb-false}
 use Rattle.refusal.specs.declared.Refusal.{Refusal}
 use Rattle.grammar.specs.declared.Cursor.{Cursor}
 use Rattle.grammar.specs.Outcome.{got, refused}
-use Rattle.grammar.specs.Combinators.{if◌then◌else◌, file}
+use Rattle.grammar.specs.Combinators.{file}
 use Rattle.grammar.proofs.Outcome.{got-ne-refused}
 use Rattle.grammar.proofs.Torn.{front-is-truncated, more-is-trailing}
 use Rattle.format.specs.Artifact.{Places, Artifact}

@@ -1,13 +1,13 @@
 -- THE DEFINITION OF THE FILE: document 01, "The sections, in file order", section by section, and in each line by line.
 -- A parser gives everything that was read or the first refusal with its values. What it needs besides the bytes: the places
 -- of the thirteen tables and the mask of the step flags.
-use Rattle.std.specs.Prelude.{ℕ, zero, suc, ◌+◌, ◌-◌, ◌^◌, Bool, true, false, not, ◌&&◌, ◌||◌, List, [], ◌∷◌, length, leb, ltb, eqb}
+use Rattle.std.specs.Prelude.{ℕ, zero, suc, ◌+◌, ◌-◌, ◌^◌, Bool, true, false, not, ◌&&◌, ◌||◌, List, [], ◌∷◌, length, leb, ltb, eqb, if◌then◌else◌}
 use Rattle.std.specs.Int.Bits.{bit_and}
 use Rattle.refusal.specs.declared.Refusal.{Refusal}
 use Rattle.refusal.specs.declared.Place.{Place}
 use Rattle.refusal.specs.declared.NamesFault.{NamesFault}
 use Rattle.grammar.specs.Outcome.{Outcome, refused, Parser, pure, refuse, ◌>>=◌, ◌>>◌}
-use Rattle.grammar.specs.Combinators.{if◌then◌else◌, byte, fixed, Text, text, place, check, left, room, ◌⇒◌∣◌, unknown, many, file}
+use Rattle.grammar.specs.Combinators.{byte, fixed, Text, text, place, check, left, room, ◌⇒◌∣◌, unknown, many, file}
 use Rattle.grammar.specs.Number.{number, index, small, signed}
 use Rattle.utf8.specs.Check.{is_utf8}
 use Rattle.position_table.specs.declared.Checked.{Checked}

@@ -1,4 +1,5 @@
 -- The laws of numbers: the shortest form is read back and is the shortest, a number of fewer bits is a wide one tested, and signed numbers go both ways.
+use Rattle.std.proofs.Common.{if◌then◌else◌}
 use Prim.Native.Nat.{ℕ, zero, suc, ◌+◌, ◌*◌, ◌/◌, ◌%◌, ◌^◌, ◌≤◌, ◌<◌}
 use mathlib.Core.Path.{◌≡◌, refl, sym, ◌∙◌, ap}
 use mathlib.Core.Bool.{Bool, true, false}
@@ -12,7 +13,7 @@ use borrow.Author.Tests.{lt-ltb, le-ltb, ltb-true, ltb-false, eq-eqb, ne_eqb, eq
 use Rattle.refusal.specs.declared.Refusal.{Refusal}
 use Rattle.grammar.specs.declared.Cursor.{Cursor}
 use Rattle.grammar.specs.Outcome.{Outcome, got, refused, Parser, after, pure, refuse, ◌>>=◌}
-use Rattle.grammar.specs.Combinators.{if◌then◌else◌, check}
+use Rattle.grammar.specs.Combinators.{check}
 use Rattle.grammar.specs.Number.{groups, number, unzigzag, signed, zigzag, shortest_in, shortest}
 use Rattle.grammar.specs.RoundTrip.{Gives}
 use Rattle.grammar.proofs.Outcome.{got-ne-refused}

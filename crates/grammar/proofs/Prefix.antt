@@ -1,4 +1,5 @@
 -- The prefix law of each combinator. With `whole-rules`, `search` proves it of a do-block.
+use Rattle.std.proofs.Common.{if◌then◌else◌}
 use Prim.Native.Nat.{ℕ, zero, suc, ◌+◌, ◌≤◌}
 use mathlib.Core.Path.{◌≡◌, refl, ap}
 use mathlib.Core.Logic.{inl, inr}
@@ -14,7 +15,7 @@ use Rattle.refusal.specs.declared.Refusal.{Refusal}
 use Rattle.refusal.specs.declared.Place.{Place}
 use Rattle.grammar.specs.declared.Cursor.{Cursor}
 use Rattle.grammar.specs.Outcome.{advanced, Outcome, got, refused, Parser, after, pure, refuse, ◌>>=◌}
-use Rattle.grammar.specs.Combinators.{if◌then◌else◌, enough, taking, byte, low_first, fixed, text_at, text, place, check, left, room, ◌⇒◌∣◌, unknown, many}
+use Rattle.grammar.specs.Combinators.{enough, taking, byte, low_first, fixed, text_at, text, place, check, left, room, ◌⇒◌∣◌, unknown, many}
 use Rattle.grammar.specs.Number.{groups, number, signed}
 use Rattle.grammar.specs.Prefix.{Within, Front, Whole}
 use Rattle.grammar.proofs.Outcome.{got-ne-refused}

@@ -1,4 +1,5 @@
 -- The shortest form is the shortest, whatever bytes a number was read from, and takes one to ten bytes.
+use Rattle.std.proofs.Common.{if◌then◌else◌}
 use Prim.Native.Nat.{ℕ, zero, suc, ◌+◌, ◌*◌, ◌/◌, ◌%◌, ◌^◌, ◌≤◌}
 use mathlib.Core.Path.{◌≡◌, refl, sym, ◌∙◌, ap}
 use mathlib.Core.Bool.{Bool, true, false}
@@ -10,7 +11,7 @@ use borrow.Author.Tests.{lt-ltb, ltb-true, ltb-false}
 use Rattle.refusal.specs.declared.Refusal.{Refusal}
 use Rattle.grammar.specs.declared.Cursor.{Cursor}
 use Rattle.grammar.specs.Outcome.{advanced, Outcome, got, refused, pure, refuse, ◌>>=◌}
-use Rattle.grammar.specs.Combinators.{if◌then◌else◌, enough, taking, byte}
+use Rattle.grammar.specs.Combinators.{enough, taking, byte}
 use Rattle.grammar.specs.Number.{groups, number, shortest_in, shortest}
 use Rattle.grammar.proofs.Outcome.{got-ne-refused, bind-got}
 use Rattle.grammar.proofs.Number.{tested, number-tested}

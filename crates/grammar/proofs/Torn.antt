@@ -1,4 +1,5 @@
 -- For any parser with the prefix law: a shorter front of an accepted file is Truncated, and n more bytes behind it are TrailingBytes n.
+use Rattle.std.proofs.Common.{if◌then◌else◌}
 use Prim.Native.Nat.{ℕ, ◌-◌, ◌<◌, zero-le}
 use mathlib.Core.Path.{◌≡◌, refl, sym}
 use mathlib.Core.Logic.{inl, inr}
@@ -11,7 +12,7 @@ use borrow.Author.Tests.{eqb-true, ne_eqb}
 use Rattle.refusal.specs.declared.Refusal.{Refusal}
 use Rattle.grammar.specs.declared.Cursor.{Cursor}
 use Rattle.grammar.specs.Outcome.{start, Outcome, got, refused, Parser, after}
-use Rattle.grammar.specs.Combinators.{if◌then◌else◌, ended, file}
+use Rattle.grammar.specs.Combinators.{ended, file}
 use Rattle.grammar.specs.Prefix.{Within, Front, Whole}
 use Rattle.grammar.proofs.Outcome.{got-ne-refused}
 

@@ -1,8 +1,8 @@
 -- Numbers in the file (document 01): how they are read, and the shortest form, which is written.
-use Rattle.std.specs.Prelude.{ℕ, zero, suc, ◌+◌, ◌*◌, ◌/◌, ◌%◌, ◌^◌, List, [], ◌∷◌, ltb, eqb, ℤ, pos, negsuc, neg_ℤ}
+use Rattle.std.specs.Prelude.{ℕ, zero, suc, ◌+◌, ◌*◌, ◌/◌, ◌%◌, ◌^◌, List, [], ◌∷◌, ltb, eqb, ℤ, pos, negsuc, neg_ℤ, if◌then◌else◌}
 use Rattle.refusal.specs.declared.Refusal.{Refusal}
 use Rattle.grammar.specs.Outcome.{Parser, pure, refuse, ◌>>=◌, ◌>>◌}
-use Rattle.grammar.specs.Combinators.{if◌then◌else◌, byte, check}
+use Rattle.grammar.specs.Combinators.{byte, check}
 
 -- seven payload bits a byte, low group first; the top bit says that another byte follows; at most n bytes
 unfoldable pub groups : ℕ → Parser ℕ

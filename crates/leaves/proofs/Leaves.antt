@@ -1,4 +1,5 @@
 -- What a parser gives of some bytes always has: a law that composes, as the prefix law does.
+use Rattle.std.proofs.Common.{if◌then◌else◌}
 use Prim.Native.Nat.{ℕ, zero, suc, ◌<◌}
 use mathlib.Core.Path.{◌≡◌, refl, sym}
 use mathlib.Core.Bool.{Bool, true, false}
@@ -8,7 +9,7 @@ use Rattle.refusal.specs.declared.Refusal.{Refusal}
 use Rattle.refusal.specs.declared.Place.{Place}
 use Rattle.grammar.specs.declared.Cursor.{Cursor}
 use Rattle.grammar.specs.Outcome.{got, Parser, pure, refuse, ◌>>=◌, ◌>>◌}
-use Rattle.grammar.specs.Combinators.{if◌then◌else◌, check, room, ◌⇒◌∣◌, unknown, many, Each}
+use Rattle.grammar.specs.Combinators.{check, room, ◌⇒◌∣◌, unknown, many, Each}
 use Rattle.grammar.proofs.Outcome.{got-ne-refused, got-value, bind-got}
 use Rattle.tables.proofs.Fitting.{many-keeps, had-place}
 

@@ -1,10 +1,9 @@
 -- THE RULES OF WELL-FORMED TABLES: document 01, "Well-formed tables, and writing", rule by rule. Each is a test of the words as they
 -- stand, for a mask of the step flags. A rule looks only at the words that a tag uses; a tag that is not known uses none, and owns
 -- no items.
-use Rattle.std.specs.Prelude.{ℕ, zero, suc, ◌+◌, ◌/◌, ◌^◌, Bool, true, false, not, ◌&&◌, ◌||◌, List, [], ◌∷◌, ◌++◌, length, take, leb, ltb, eqb}
+use Rattle.std.specs.Prelude.{ℕ, zero, suc, ◌+◌, ◌/◌, ◌^◌, Bool, true, false, not, ◌&&◌, ◌||◌, List, [], ◌∷◌, ◌++◌, length, take, leb, ltb, eqb, if◌then◌else◌}
 use Rattle.std.specs.Int.Bits.{bit_and}
 use Rattle.grammar.specs.declared.Span.{Span}
-use Rattle.grammar.specs.Combinators.{if◌then◌else◌}
 use Rattle.utf8.specs.Check.{is_utf8}
 use Rattle.position_table.specs.declared.Checked.{Checked}
 use Rattle.position_table.specs.Table.{checked}

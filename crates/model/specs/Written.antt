@@ -1,8 +1,7 @@
 -- WHAT WRITING ANSWERS AND LEAVES: BadModel with the lowest broken rule, then NoRoom with the bytes needed; else the bytes of what the
 -- tables mean stand in front of the output, and the rest of it stays. A refusal leaves the output untouched.
-use Rattle.std.specs.Prelude.{ℕ, zero, suc, ◌≡◌, Bool, true, false, List, ◌++◌, length, drop, leb}
+use Rattle.std.specs.Prelude.{ℕ, zero, suc, ◌≡◌, Bool, true, false, List, ◌++◌, length, drop, leb, if◌then◌else◌}
 use Rattle.refusal.specs.declared.Refusal.{Refusal}
-use Rattle.grammar.specs.Combinators.{if◌then◌else◌}
 use Rattle.varint.specs.declared.Written.{Written}
 use Rattle.written.specs.Meaning.{Meaning}
 use Rattle.written.specs.Put.{put}

@@ -1,9 +1,8 @@
 -- One site: how many bytes it takes, and what the steps of both passes make of their state.
-use Rattle.std.proofs.Common.{◌≡◌, ℕ, zero, suc, ◌+◌, ◌-◌, ◌/◌, ◌%◌, ◌<◌, ◌≤◌, Bool, true, false, not, ltb, leb, List, [], ◌∷◌, ◌++◌, length, set, sym, refl, ap, ◌∙◌, add-zero, add-suc, add-one, arith, length-append, eq-eqb, ne_eqb, le-leb, leb-false, leb-true}
+use Rattle.std.proofs.Common.{◌≡◌, ℕ, zero, suc, ◌+◌, ◌-◌, ◌/◌, ◌%◌, ◌<◌, ◌≤◌, Bool, true, false, not, ltb, leb, List, [], ◌∷◌, ◌++◌, length, set, sym, refl, ap, ◌∙◌, add-zero, add-suc, add-one, arith, length-append, eq-eqb, ne_eqb, le-leb, leb-false, leb-true, if◌then◌else◌}
 use lib.Seq.{sets, length-sets}
 use lib.Bits.{bit_or}
 use borrow.Author.Tests.{lt-leb}
-use Rattle.grammar.specs.Combinators.{if◌then◌else◌}
 use Rattle.grammar.specs.Number.{shortest, shortest_in}
 use Rattle.varint.proofs.Shortest.{more-group, last-group}
 use Rattle.pos.proofs.Shorts.{low-left, low-right, low-one, low-two, low-three}

@@ -1,9 +1,8 @@
 -- Lists of sites: how three slices make one, and what the two passes come to over it.
-use Rattle.std.proofs.Common.{◌≡◌, ℕ, zero, suc, ◌+◌, ◌-◌, ◌*◌, ◌%◌, ◌^◌, ◌<◌, ◌≤◌, Bool, true, false, eqb, ltb, leb, List, [], ◌∷◌, ◌++◌, length, get_or, drop, sym, refl, ap, ◌∙◌, append_assoc, zero-le, mod-eq_of_lt, zero-add, add-one, arith, length-append, drop_of_length-le, ltb-false, le-ltb, ne_eqb, eqb-true, leb-true}
+use Rattle.std.proofs.Common.{◌≡◌, ℕ, zero, suc, ◌+◌, ◌-◌, ◌*◌, ◌%◌, ◌^◌, ◌<◌, ◌≤◌, Bool, true, false, eqb, ltb, leb, List, [], ◌∷◌, ◌++◌, length, get_or, drop, sym, refl, ap, ◌∙◌, append_assoc, zero-le, mod-eq_of_lt, zero-add, add-one, arith, length-append, drop_of_length-le, ltb-false, le-ltb, ne_eqb, eqb-true, leb-true, if◌then◌else◌}
 use lib.Seq.{sets, length-sets}
 use borrow.Author.Tests.{eqb-false}
 use Rattle.refusal.specs.declared.Refusal.{Refusal}
-use Rattle.grammar.specs.Combinators.{if◌then◌else◌}
 use Rattle.grammar.specs.Number.{shortest}
 use Rattle.position_table.specs.declared.Site.{Site}
 use Rattle.position_table.specs.declared.Encoded.{Encoded}

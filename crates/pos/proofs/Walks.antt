@@ -1,11 +1,11 @@
 -- One entry more: how the definitions' lists of entries go on behind an entry, for a check and for resolving.
-use Rattle.std.proofs.Common.{◌≡◌, ℕ, suc, ◌+◌, ◌-◌, ◌^◌, ◌<◌, ◌≤◌, Bool, true, false, eqb, ltb, List, ◌∷◌, length, get_or, sym, refl, ap, ◌∙◌, zero-le, zero-add, arith, ltb-false, ltb-true, le-ltb, lt-ltb, eq-eqb}
+use Rattle.std.proofs.Common.{◌≡◌, ℕ, suc, ◌+◌, ◌-◌, ◌^◌, ◌<◌, ◌≤◌, Bool, true, false, eqb, ltb, List, ◌∷◌, length, get_or, sym, refl, ap, ◌∙◌, zero-le, zero-add, arith, ltb-false, ltb-true, le-ltb, lt-ltb, eq-eqb, if◌then◌else◌}
 use lib.Bits.{bit_or}
 use Rattle.refusal.specs.declared.Refusal.{Refusal}
 use Rattle.refusal.specs.declared.PositionsFault.{PositionsFault}
 use Rattle.grammar.specs.declared.Cursor.{Cursor}
 use Rattle.grammar.specs.Outcome.{start, advanced, Outcome, got, refused, after, pure, refuse, ◌>>=◌}
-use Rattle.grammar.specs.Combinators.{if◌then◌else◌, check}
+use Rattle.grammar.specs.Combinators.{check}
 use Rattle.grammar.specs.Number.{number}
 use Rattle.grammar.proofs.Number.{number-below}
 use Rattle.grammar.proofs.Outcome.{got-ne-refused}

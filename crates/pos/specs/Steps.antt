@@ -1,10 +1,9 @@
 -- An entry alone, over the definitions of Table: what a check and resolving both read, told the least step that may follow.
-use Rattle.std.specs.Prelude.{ℕ, ◌+◌, ◌-◌, ◌^◌, ltb, List, length, ◌==◌, nat_eq, nat_lt}
+use Rattle.std.specs.Prelude.{ℕ, ◌+◌, ◌-◌, ◌^◌, ltb, List, length, ◌==◌, nat_eq, nat_lt, if◌then◌else◌}
 use Rattle.refusal.specs.declared.Refusal.{Refusal}
 use Rattle.refusal.specs.declared.PositionsFault.{PositionsFault}
 use Rattle.refusal.specs.Numbers.{row_of}
 use Rattle.grammar.specs.Outcome.{Outcome, got, refused, Parser, pure, ◌>>=◌}
-use Rattle.grammar.specs.Combinators.{if◌then◌else◌}
 use Rattle.position_table.specs.declared.Site.{Site}
 use Rattle.position_table.specs.declared.Checked.{Checked}
 use Rattle.pos.specs.declared.reading.Reached.{Reached}

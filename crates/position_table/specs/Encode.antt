@@ -1,8 +1,7 @@
 -- Encoding sites (document 01): those of line 0 are dropped first, and the rest must strictly ascend.
-use Rattle.std.specs.Prelude.{ℕ, ◌-◌, List, [], ◌∷◌, ◌++◌, length, leb, ltb, eqb}
+use Rattle.std.specs.Prelude.{ℕ, ◌-◌, List, [], ◌∷◌, ◌++◌, length, leb, ltb, eqb, if◌then◌else◌}
 use Rattle.std.proofs.lemmas.List.Edits.{sets}
 use Rattle.refusal.specs.declared.Refusal.{Refusal}
-use Rattle.grammar.specs.Combinators.{if◌then◌else◌}
 use Rattle.grammar.specs.Number.{shortest}
 use Rattle.position_table.specs.declared.Site.{Site}
 use Rattle.position_table.specs.declared.Encoded.{Encoded}

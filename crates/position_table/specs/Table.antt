@@ -1,10 +1,10 @@
 -- A position table (document 01): a count, then address step, line and column, each 32 bits.
-use Rattle.std.specs.Prelude.{ℕ, zero, suc, ◌+◌, ◌-◌, ◌^◌, List, [], ◌∷◌, length, ltb, eqb}
+use Rattle.std.specs.Prelude.{ℕ, zero, suc, ◌+◌, ◌-◌, ◌^◌, List, [], ◌∷◌, length, ltb, eqb, if◌then◌else◌}
 use Rattle.refusal.specs.declared.Refusal.{Refusal}
 use Rattle.refusal.specs.declared.PositionsFault.{PositionsFault}
 use Rattle.refusal.specs.Numbers.{row_of}
 use Rattle.grammar.specs.Outcome.{start, Outcome, got, refused, Parser, after, pure, ◌>>=◌, ◌>>◌}
-use Rattle.grammar.specs.Combinators.{if◌then◌else◌, check}
+use Rattle.grammar.specs.Combinators.{check}
 use Rattle.grammar.specs.Number.{index}
 use Rattle.position_table.specs.declared.Site.{Site}
 use Rattle.position_table.specs.declared.Checked.{Checked}

@@ -1,4 +1,5 @@
 -- The end of the file, and the limit in front of it: from the steps to the definition of the whole.
+use Rattle.std.proofs.Common.{if◌then◌else◌}
 use Prim.Native.Nat.{ℕ, ◌-◌, ◌≤◌, ◌<◌}
 use mathlib.Core.Path.{◌≡◌, refl, ◌∙◌}
 use mathlib.Core.Bool.{Bool, true, false}
@@ -9,7 +10,7 @@ use borrow.Author.Tests.{lt-ltb, le-ltb}
 use Rattle.refusal.specs.declared.Refusal.{Refusal}
 use Rattle.grammar.specs.declared.Cursor.{Cursor}
 use Rattle.grammar.specs.Outcome.{start, Outcome, got, refused, pure, after}
-use Rattle.grammar.specs.Combinators.{if◌then◌else◌, ended}
+use Rattle.grammar.specs.Combinators.{ended}
 use Rattle.grammar.specs.Combinators as combinators
 use Rattle.format.specs.Artifact as A
 use Rattle.format.specs.File as file

@@ -1,9 +1,8 @@
 -- What a step of the reader promises: it hands a refusal on, and otherwise does what its section does.
-use Rattle.std.specs.Prelude.{ℕ, ◌-◌, ◌≡◌, List, length, ltb, eqb}
+use Rattle.std.specs.Prelude.{ℕ, ◌-◌, ◌≡◌, List, length, ltb, eqb, if◌then◌else◌}
 use Rattle.refusal.specs.declared.Refusal.{Refusal}
 use Rattle.grammar.specs.declared.Cursor.{Cursor}
 use Rattle.grammar.specs.Outcome.{start, Outcome, refused}
-use Rattle.grammar.specs.Combinators.{if◌then◌else◌}
 use Rattle.format.specs.Artifact.{Header}
 use Rattle.format.specs.File as definition
 use Rattle.reading.specs.declared.steps.Place.{Place}

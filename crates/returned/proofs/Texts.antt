@@ -1,4 +1,5 @@
 -- Every text that a read gives stands in the bytes that were read, and every string is UTF-8.
+use Rattle.std.proofs.Common.{if◌then◌else◌}
 use Prim.Native.Nat.{ℕ, zero, suc, ◌+◌, ◌≤◌}
 use mathlib.Core.Path.{◌≡◌, refl, sym}
 use mathlib.Core.Bool.{Bool, true, false}
@@ -8,7 +9,7 @@ use borrow.Author.Tests.{leb-true}
 use Rattle.refusal.specs.declared.Refusal.{Refusal}
 use Rattle.grammar.specs.declared.Cursor.{Cursor}
 use Rattle.grammar.specs.Outcome.{start, advanced, got, refused, Parser}
-use Rattle.grammar.specs.Combinators.{if◌then◌else◌, enough, taking, Text, text_at, text, many, Each}
+use Rattle.grammar.specs.Combinators.{enough, taking, Text, text_at, text, many, Each}
 use Rattle.grammar.proofs.Outcome.{got-ne-refused, got-value}
 use Rattle.utf8.specs.Check.{is_utf8}
 use Rattle.tables.specs.Table.{records}

@@ -1,4 +1,5 @@
 -- The rows of constants that were read: they follow each other exactly, the levels do for them, and each row and key keeps the rules.
+use Rattle.std.proofs.Common.{if◌then◌else◌}
 use Prim.Native.Nat.{ℕ, zero, suc, ◌+◌, ◌*◌}
 use mathlib.Core.Path.{◌≡◌, refl, sym, ◌∙◌, ap}
 use mathlib.Core.Bool.{Bool, true, false, not, ◌||◌}
@@ -9,7 +10,7 @@ use lib.Dec.{eqb}
 use lib.Seq.{take_at, drop_at}
 use borrow.Author.Tests.{le-leb}
 use Rattle.grammar.specs.declared.Span.{Span}
-use Rattle.grammar.specs.Combinators.{if◌then◌else◌, Text, Each}
+use Rattle.grammar.specs.Combinators.{Text, Each}
 use Rattle.tables.specs.Table.{rows}
 use Rattle.format.specs.Artifact as A
 use Rattle.format.specs.File.{scalar}

@@ -1,4 +1,5 @@
 -- What a call of `writing::write` that wrote something says, by its contract.
+use Rattle.std.proofs.Common.{if◌then◌else◌}
 use Prim.Native.Nat.{ℕ, zero, suc}
 use mathlib.Core.Bool.{Bool, true, false}
 use mathlib.Core.Path.{◌≡◌, refl}
@@ -9,7 +10,6 @@ use lib.Dec.{leb}
 use lib.ListN.{length, drop}
 use lib.Seq.{take-append_seam}
 use Rattle.refusal.specs.declared.Refusal.{Refusal}
-use Rattle.grammar.specs.Combinators.{if◌then◌else◌}
 use Rattle.varint.specs.declared.Written.{Written}
 use Rattle.model.specs.Lent.{Lent}
 use Rattle.model.specs.Written.{broken_of_ten, rule11, else_eleven, lowest_broken, bytes_of, roomed, in_front, answered, left}

@@ -1,10 +1,9 @@
 -- The way back: the record that the words of a row stand for, in the order of the rows' own definitions. Every row gives a record:
 -- a word is taken modulo the width of what it holds, and a tag that is none of the known ones means the last variant.
-use Rattle.std.specs.Prelude.{ℕ, zero, suc, ◌-◌, ◌%◌, ◌^◌, true, false, not, List, [], ◌∷◌, map, get_or, take, drop, eqb, ℤ}
+use Rattle.std.specs.Prelude.{ℕ, zero, suc, ◌-◌, ◌%◌, ◌^◌, true, false, not, List, [], ◌∷◌, map, get_or, take, drop, eqb, ℤ, if◌then◌else◌}
 use Rattle.std.specs.Int.{w64}
 use Rattle.std.proofs.Common.{to_z}
 use Rattle.grammar.specs.declared.Span.{Span}
-use Rattle.grammar.specs.Combinators.{if◌then◌else◌}
 use Rattle.format.specs.declared.records.NameIndex.{NameIndex}
 use Rattle.format.specs.declared.records.OptionalPosition.{OptionalPosition}
 use Rattle.format.specs.declared.records.Chunk.{Chunk}

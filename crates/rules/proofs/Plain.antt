@@ -1,10 +1,10 @@
 -- Rows whose words all fit keep rule 9 whatever their tag is.
+use Rattle.std.proofs.Common.{if◌then◌else◌}
 use Prim.Native.Nat.{ℕ}
 use mathlib.Core.Bool.{Bool, true, false, ◌&&◌}
 use mathlib.Core.Path.{◌≡◌, refl}
 use mathlib.Core.List.{List}
 use lib.Dec.{eqb}
-use Rattle.grammar.specs.Combinators.{if◌then◌else◌}
 use Rattle.rows.specs.Back.{word}
 use Rattle.model.specs.Rules.{tag, bits, sound_position, sound_root, sound_by_tag}
 use Rattle.rules.specs.Keeps.{root_fits, step_fits}

@@ -1,7 +1,6 @@
 -- What a row of each table is asked by the rule that is told: a line for each rule that looks at the table. 0 stands for all of them.
-use Rattle.std.specs.Prelude.{ℕ, ◌/◌, Bool, not, ◌&&◌, ◌||◌, List, get_or, leb, ltb, eqb}
+use Rattle.std.specs.Prelude.{ℕ, ◌/◌, Bool, not, ◌&&◌, ◌||◌, List, get_or, leb, ltb, eqb, if◌then◌else◌}
 use Rattle.grammar.specs.declared.Span.{Span}
-use Rattle.grammar.specs.Combinators.{if◌then◌else◌}
 use Rattle.format.specs.declared.answer.Used.{Used}
 use Rattle.format.specs.File.{scalar}
 use Rattle.rows.specs.Back.{word}

@@ -1,6 +1,5 @@
 -- What a walk over the constants' rows answers: a place says which rows are left.
-use Rattle.std.specs.Prelude.{ℕ, ◌+◌, ◌*◌, ◌≡◌, ◌&&◌, List, [], take, drop, leb, eqb}
-use Rattle.grammar.specs.Combinators.{if◌then◌else◌}
+use Rattle.std.specs.Prelude.{ℕ, ◌+◌, ◌*◌, ◌≡◌, ◌&&◌, List, [], take, drop, leb, eqb, if◌then◌else◌}
 use Rattle.rows.specs.Back.{word}
 use Rattle.model.specs.Rules.{tag, skip, entries, exactly, Behind, behind, too_deep}
 use Rattle.rules.specs.declared.trees.Walked.{Walked}

@@ -1,10 +1,10 @@
 -- What each answer of a read says, as an outcome of the definition of the file; and the rests of records that are read in two parts.
-use Rattle.std.specs.Prelude.{ℕ, ◌*◌, ◌^◌, ◌<◌, ◌≡◌, ◌&&◌, List, [], ◌∷◌, eqb}
+use Rattle.std.specs.Prelude.{ℕ, ◌*◌, ◌^◌, ◌<◌, ◌≡◌, ◌&&◌, List, [], ◌∷◌, eqb, if◌then◌else◌}
 use Rattle.refusal.specs.declared.Refusal.{Refusal}
 use Rattle.grammar.specs.declared.Cursor.{Cursor}
 use Rattle.grammar.specs.declared.Span.{Span}
 use Rattle.grammar.specs.Outcome.{Outcome, got, refused, Parser, pure, ◌>>=◌, ◌>>◌}
-use Rattle.grammar.specs.Combinators.{if◌then◌else◌, byte, fixed, Text, text_at, check}
+use Rattle.grammar.specs.Combinators.{byte, fixed, Text, text_at, check}
 use Rattle.position_table.specs.declared.Checked.{Checked}
 use Rattle.position_table.specs.Table.{checked}
 use Rattle.varint.specs.declared.ReadNumber.{ReadNumber}

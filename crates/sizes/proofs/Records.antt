@@ -1,4 +1,5 @@
 -- The sizes of switches, custom sites and functions, of their items, and of both apart.
+use Rattle.std.proofs.Common.{if◌then◌else◌}
 use Prim.Native.Nat.{ℕ, zero, suc, ◌+◌, ◌-◌, min}
 use mathlib.Core.Bool.{Bool, true, false}
 use mathlib.Core.Path.{◌≡◌, refl, sym, ◌∙◌, ap}
@@ -6,7 +7,7 @@ use mathlib.Core.List.{List, [], ◌∷◌, ◌++◌}
 use native.Mathlib.Omega.{arith}
 use lib.Dec.{eqb}
 use lib.ListN.{length, take, drop, length-append, length-take, length-drop}
-use Rattle.grammar.specs.Combinators.{if◌then◌else◌, put_all}
+use Rattle.grammar.specs.Combinators.{put_all}
 use Rattle.grammar.specs.Number.{shortest, shortest_in, zigzag}
 use Rattle.format.specs.declared.records.NameIndex.{NameIndex}
 use Rattle.format.specs.declared.records.Switch.{Switch}

@@ -1,11 +1,12 @@
 -- The sizes of chains and steps, from those of their words: by the tag, as the definition tests it.
+use Rattle.std.proofs.Common.{if◌then◌else◌}
 use Prim.Native.Nat.{ℕ, ◌+◌}
 use mathlib.Core.Bool.{Bool, true, false}
 use mathlib.Core.Path.{◌≡◌, ◌∙◌}
 use mathlib.Core.List.{List}
 use native.Mathlib.Omega.{arith}
 use lib.ListN.{length, length-append}
-use Rattle.grammar.specs.Combinators.{if◌then◌else◌, put_all}
+use Rattle.grammar.specs.Combinators.{put_all}
 use Rattle.grammar.specs.Number.{shortest}
 use Rattle.format.specs.declared.records.Root.{Root}
 use Rattle.format.specs.declared.records.Tail.{Tail}

@@ -1,10 +1,10 @@
 -- The sizes of what words hold, from the sizes of their numbers.
+use Rattle.std.proofs.Common.{if◌then◌else◌}
 use Prim.Native.Nat.{ℕ, ◌+◌}
 use mathlib.Core.Bool.{Bool}
 use mathlib.Core.Path.{◌≡◌, ap}
 use lib.Dec.{eqb}
 use lib.ListN.{length, length-append}
-use Rattle.grammar.specs.Combinators.{if◌then◌else◌}
 use Rattle.grammar.specs.Number.{shortest}
 use Rattle.rows.specs.Back.{small, position}
 use Rattle.written.specs.Put.{put_position}

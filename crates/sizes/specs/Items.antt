@@ -1,6 +1,6 @@
 -- Constants, row by row: which words a tag uses, how long they are, and a run of constants with all that they own.
-use Rattle.std.specs.Prelude.{ℕ, ◌+◌, ◌≤◌, Bool, ◌||◌, ◌≡◌, List, eqb, length}
-use Rattle.grammar.specs.Combinators.{if◌then◌else◌, put_all}
+use Rattle.std.specs.Prelude.{ℕ, ◌+◌, ◌≤◌, Bool, ◌||◌, ◌≡◌, List, eqb, length, if◌then◌else◌}
+use Rattle.grammar.specs.Combinators.{put_all}
 use Rattle.grammar.specs.Number.{shortest, zigzag}
 use Rattle.rows.specs.Back.{word, index, signed, kind_of}
 use Rattle.rows.specs.Tree.{kind, grow}

@@ -1,6 +1,5 @@
 // Places, and the sizes of numbers and texts.
-ghost use Rattle.std.specs.Prelude.{◌≡◌, ◌+◌, ◌≤◌, min, length};
-ghost use Rattle.grammar.specs.Combinators.{if◌then◌else◌};
+ghost use Rattle.std.specs.Prelude.{◌≡◌, ◌+◌, ◌≤◌, min, length, if◌then◌else◌};
 ghost use Rattle.grammar.specs.Number.{shortest};
 ghost use Rattle.written.specs.Put.{put_bytes};
 ghost use Rattle.model.specs.Lent.{clip};

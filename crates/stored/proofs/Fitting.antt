@@ -1,4 +1,5 @@
 -- What a read gives of bytes fits.
+use Rattle.std.proofs.Common.{if◌then◌else◌}
 use Prim.Native.Nat.{ℕ, zero, suc, ◌+◌, ◌-◌, ◌^◌, ◌≤◌, ◌<◌}
 use mathlib.Core.Path.{◌≡◌, refl, sym}
 use mathlib.Core.Bool.{Bool, true, false}
@@ -13,7 +14,7 @@ use borrow.Author.Tests.{eqb-false, leb-true}
 use Rattle.refusal.specs.declared.Refusal.{Refusal}
 use Rattle.grammar.specs.declared.Cursor.{Cursor}
 use Rattle.grammar.specs.Outcome.{advanced, got, refused, Parser}
-use Rattle.grammar.specs.Combinators.{if◌then◌else◌, enough, taking, byte, Text, many, Each}
+use Rattle.grammar.specs.Combinators.{enough, taking, byte, Text, many, Each}
 use Rattle.grammar.specs.Number.{number, signed, zigzag, unzigzag}
 use Rattle.grammar.proofs.Outcome.{got-ne-refused, got-value}
 use Rattle.grammar.proofs.Number.{number-below, zigzag-unzigzag}

@@ -1,4 +1,5 @@
 -- The constants that grow from sound rows are well-formed, each with its items one level deeper, and take no more places than there are rows.
+use Rattle.std.proofs.Common.{if◌then◌else◌}
 use Prim.Native.Nat.{ℕ, zero, suc, ◌+◌, ◌^◌, ◌≤◌, ◌<◌}
 use mathlib.Core.Bool.{true}
 use mathlib.Core.Path.{◌≡◌, refl, sym, ◌∙◌, ap}
@@ -9,7 +10,7 @@ use borrow.Author.Tests.{eqb-true}
 use lib.Dec.{eqb}
 use lib.ListN.{length}
 use Rattle.grammar.specs.declared.Span.{Span}
-use Rattle.grammar.specs.Combinators.{if◌then◌else◌, Each}
+use Rattle.grammar.specs.Combinators.{Each}
 use Rattle.format.specs.Artifact as A
 use Rattle.rows.specs.declared.constants.Constant.{Constant}
 use Rattle.rows.specs.Back.{word, constant_of, keyed_of}

@@ -1,4 +1,5 @@
 -- The record of a row fits: a word is taken modulo the width of what it holds, and the rules say the rest.
+use Rattle.std.proofs.Common.{if◌then◌else◌}
 use Prim.Native.Nat.{ℕ, ◌+◌, ◌*◌, ◌-◌, ◌/◌, ◌%◌, ◌^◌, ◌≤◌, ◌<◌}
 use mathlib.Core.Bool.{Bool, true, false}
 use mathlib.Core.Path.{◌≡◌, refl, sym, ◌∙◌, ap}
@@ -12,7 +13,6 @@ use mir.Syntax.{w64}
 use mir.Val.{SFits}
 use mir.ValLaws.{to_z-Fits}
 use borrow.Author.Tests.{ltb-true, leb-true, eqb-false, eq-eqb}
-use Rattle.grammar.specs.Combinators.{if◌then◌else◌}
 use Rattle.format.specs.declared.records.OptionalPosition.{OptionalPosition}
 use Rattle.format.specs.declared.records.Literal.{Literal}
 use Rattle.rows.specs.Back as B

@@ -1,4 +1,5 @@
 -- The row of a constant, by its tag: the constant that it means, what its own words say, how many items it owns, and whether they have keys.
+use Rattle.std.proofs.Common.{if◌then◌else◌}
 use Prim.Native.Nat.{ℕ, zero, suc, ◌%◌, ◌^◌, ◌≤◌, ◌<◌}
 use mathlib.Core.Bool.{Bool, true, false, not, ◌&&◌, ◌||◌}
 use mathlib.Core.Path.{◌≡◌, refl}
@@ -10,7 +11,6 @@ use lib.Dec.{leb, ltb, eqb}
 use lib.ListN.{length}
 use mir.Syntax.{w64}
 use mir.Val.{SFits}
-use Rattle.grammar.specs.Combinators.{if◌then◌else◌}
 use Rattle.format.specs.File.{scalar}
 use Rattle.rows.specs.declared.constants.Kind.{Kind}
 use Rattle.rows.specs.declared.constants.Constant.{Constant}

@@ -1,7 +1,6 @@
 -- The payloads of a word's bytes side by side: how they are squeezed, and what they come to.
-use Rattle.std.proofs.Common.{◌≡◌, ℕ, zero, suc, ◌+◌, ◌*◌, ◌/◌, ◌%◌, ◌^◌, ◌<◌, Bool, true, false, ltb, List, [], ◌∷◌, length, get_or, sym, refl, ap, ◌∙◌, add_assoc, mod-eq_of_lt, add_comm, arith, pow-add, shl_exact, ltb-true}
+use Rattle.std.proofs.Common.{◌≡◌, ℕ, zero, suc, ◌+◌, ◌*◌, ◌/◌, ◌%◌, ◌^◌, ◌<◌, Bool, true, false, ltb, List, [], ◌∷◌, length, get_or, sym, refl, ap, ◌∙◌, add_assoc, mod-eq_of_lt, add_comm, arith, pow-add, shl_exact, ltb-true, if◌then◌else◌}
 use lib.Bits.{bit_and, bit_or, or_shifted_r}
-use Rattle.grammar.specs.Combinators.{if◌then◌else◌}
 use Rattle.varint.specs.Word.{word, bytes_at, payloads, Bytes, none, more}
 use Rattle.varint.proofs.Word.{kept}
 use Rattle.varint.proofs.Ended.{value}

@@ -1,8 +1,7 @@
 -- Bytes joined to a word, low byte first: which of them end a number, and the word up to the first that does.
-use Rattle.std.proofs.Common.{◌≡◌, ℕ, zero, suc, ◌+◌, ◌-◌, ◌*◌, ◌/◌, ◌%◌, ◌^◌, ◌<◌, ◌≤◌, Bool, true, false, ltb, List, [], ◌∷◌, length, sym, refl, ap, ◌∙◌, ap₂, mul_assoc, pow-suc, arith, pow-add, ltb-false, ltb-true, le-ltb}
+use Rattle.std.proofs.Common.{◌≡◌, ℕ, zero, suc, ◌+◌, ◌-◌, ◌*◌, ◌/◌, ◌%◌, ◌^◌, ◌<◌, ◌≤◌, Bool, true, false, ltb, List, [], ◌∷◌, length, sym, refl, ap, ◌∙◌, ap₂, mul_assoc, pow-suc, arith, pow-add, ltb-false, ltb-true, le-ltb, if◌then◌else◌}
 use lib.Bits.{bit_and, and_block, and_mask, and_high, and_zero_r}
 use lib.Count.{count_trailing_zeros}
-use Rattle.grammar.specs.Combinators.{if◌then◌else◌}
 use Rattle.varint.specs.Word.{word, Bytes, none, more}
 
 -- the top bit of each byte that has it clear, and so ends a number

@@ -1,9 +1,8 @@
 -- What the private reads of a number answer: the value and the bytes taken, of which none says that the number is refused.
-use Rattle.std.specs.Prelude.{ℕ, ◌==◌, nat_lt}
+use Rattle.std.specs.Prelude.{ℕ, ◌==◌, nat_lt, if◌then◌else◌}
 use Rattle.refusal.specs.declared.Refusal.{Refusal}
 use Rattle.grammar.specs.declared.Cursor.{Cursor}
 use Rattle.grammar.specs.Outcome.{advanced, Outcome, got, refused}
-use Rattle.grammar.specs.Combinators.{if◌then◌else◌}
 
 abbrev pub place : ℕ → Cursor
 place at = record { at = at }

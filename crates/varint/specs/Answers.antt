@@ -1,8 +1,7 @@
 -- What each answer of a read says, as an outcome of the grammar; and what put answers and leaves.
-use Rattle.std.specs.Prelude.{ℕ, List, length, ℤ, nat_le}
+use Rattle.std.specs.Prelude.{ℕ, List, length, ℤ, nat_le, if◌then◌else◌}
 use Rattle.std.proofs.lemmas.List.Edits.{sets}
 use Rattle.refusal.specs.declared.Refusal.{Refusal}
-use Rattle.grammar.specs.Combinators.{if◌then◌else◌}
 use Rattle.grammar.specs.Number.{shortest}
 use Rattle.grammar.specs.Outcome.{Outcome, got, refused}
 use Rattle.varint.specs.declared.ReadNumber.{ReadNumber}

@@ -1,4 +1,5 @@
 -- What an accepted read means is well-formed, under the same mask and with the same places.
+use Rattle.std.proofs.Common.{if◌then◌else◌}
 use Prim.Native.Nat.{ℕ, ◌≤◌}
 use mathlib.Core.Path.{◌≡◌, refl}
 use mathlib.Core.Logic.{◌⊎◌, inl, inr}
@@ -11,7 +12,7 @@ use lib.Bits.{bit_and}
 use borrow.Author.Tests.{ltb-true, eqb-true}
 use Rattle.grammar.specs.declared.Cursor.{Cursor}
 use Rattle.grammar.specs.Outcome.{start, got, Parser, ◌>>=◌}
-use Rattle.grammar.specs.Combinators.{if◌then◌else◌, Text}
+use Rattle.grammar.specs.Combinators.{Text}
 use Rattle.grammar.proofs.RoundTrip.{itself}
 use Rattle.position_table.specs.declared.Checked.{Checked}
 use Rattle.position_table.specs.Table.{checked}

@@ -1,4 +1,5 @@
 -- What an accepted read means can be written again, whole or stripped, under the same mask and with the same places: it is well-formed and no longer than what was read.
+use Rattle.std.proofs.Common.{if◌then◌else◌}
 use Prim.Native.Nat.{ℕ, ◌≤◌, zero-le}
 use mathlib.Core.Path.{◌≡◌, refl, sym}
 use mathlib.Core.Bool.{Bool, true, false}
@@ -11,7 +12,7 @@ use borrow.Author.Tests.{ltb-false}
 use Rattle.refusal.specs.declared.Refusal.{Refusal}
 use Rattle.grammar.specs.declared.Cursor.{Cursor}
 use Rattle.grammar.specs.Outcome.{start, got, refused}
-use Rattle.grammar.specs.Combinators.{if◌then◌else◌, file, put_all}
+use Rattle.grammar.specs.Combinators.{file, put_all}
 use Rattle.grammar.specs.Number.{shortest}
 use Rattle.grammar.specs.RoundTrip.{Read}
 use Rattle.grammar.proofs.Outcome.{got-ne-refused}

@@ -1,4 +1,5 @@
 -- Custom syntax and functions are given back.
+use Rattle.std.proofs.Common.{if◌then◌else◌}
 use Prim.Native.Nat.{ℕ, ◌+◌, ◌-◌, ◌^◌, ◌≤◌}
 use mathlib.Core.Path.{◌≡◌, refl}
 use mathlib.Core.List.{List}
@@ -6,7 +7,7 @@ use native.Mathlib.Omega.{arith}
 use lib.Dec.{eqb}
 use borrow.Author.Tests.{le-leb, ne_eqb}
 use Rattle.grammar.specs.Outcome.{pure, ◌>>=◌}
-use Rattle.grammar.specs.Combinators.{if◌then◌else◌, ◌⇒◌∣◌}
+use Rattle.grammar.specs.Combinators.{◌⇒◌∣◌}
 use Rattle.grammar.specs.Number.{index}
 use Rattle.grammar.specs.RoundTrip.{Gives}
 use Rattle.grammar.proofs.RoundTrip.{itself, gives-pure, gives-check-then}

@@ -1,4 +1,5 @@
 -- The position table is given back.
+use Rattle.std.proofs.Common.{if◌then◌else◌}
 use Prim.Native.Nat.{ℕ}
 use mathlib.Core.Path.{◌≡◌, refl, ◌∙◌, ap}
 use mathlib.Core.Logic.{◌⊎◌, inl, inr}
@@ -8,7 +9,7 @@ use lib.ListN.{length, take}
 use lib.Seq.{take_at}
 use lib.Dec.{eqb}
 use Rattle.grammar.specs.Outcome.{Parser, pure, ◌>>=◌}
-use Rattle.grammar.specs.Combinators.{if◌then◌else◌, Text, text}
+use Rattle.grammar.specs.Combinators.{Text, text}
 use Rattle.grammar.specs.RoundTrip.{Gives}
 use Rattle.grammar.proofs.RoundTrip.{gives-pure, gives-bind, gives_nothing, gives-taking}
 use Rattle.position_table.specs.declared.Checked.{Checked}

@@ -1,4 +1,5 @@
 -- What a read gives of bytes: texts and lists, of any record, with what they mean.
+use Rattle.std.proofs.Common.{if◌then◌else◌}
 use Prim.Native.Nat.{ℕ, zero, suc, ◌+◌, ◌^◌, ◌≤◌, ◌<◌}
 use mathlib.Core.Path.{◌≡◌, refl, sym, ap}
 use mathlib.Core.Bool.{Bool, true, false}
@@ -9,7 +10,7 @@ use lib.ListN.{length, take, drop}
 use Rattle.refusal.specs.declared.Refusal.{Refusal}
 use Rattle.grammar.specs.declared.Cursor.{Cursor}
 use Rattle.grammar.specs.Outcome.{advanced, got, refused, Parser, ◌>>=◌, ◌>>◌}
-use Rattle.grammar.specs.Combinators.{if◌then◌else◌, enough, taking, low_first, fixed, Text, text, room, many, Each}
+use Rattle.grammar.specs.Combinators.{enough, taking, low_first, fixed, Text, text, room, many, Each}
 use Rattle.grammar.specs.Number.{number}
 use Rattle.grammar.proofs.Outcome.{got-ne-refused, got-value}
 use Rattle.grammar.proofs.RoundTrip.{itself}

@@ -1,4 +1,5 @@
 -- What an accepted read means is written in no more bytes than were read, so it can be written again.
+use Rattle.std.proofs.Common.{if◌then◌else◌}
 use Prim.Native.Nat.{ℕ, zero, suc, ◌+◌, ◌-◌, ◌≤◌}
 use mathlib.Core.Path.{◌≡◌, refl}
 use mathlib.Core.Bool.{Bool, true, false}
@@ -7,7 +8,7 @@ use native.Mathlib.Omega.{arith}
 use lib.ListN.{length, length-append}
 use lib.Dec.{eqb}
 use borrow.Author.Tests.{eqb-true, eqb-false}
-use Rattle.grammar.specs.Combinators.{if◌then◌else◌, Text, many}
+use Rattle.grammar.specs.Combinators.{Text, many}
 use Rattle.grammar.specs.Number.{shortest, shortest_in}
 use Rattle.grammar.proofs.RoundTrip.{itself}
 use Rattle.grammar.proofs.Shortest.{shortest-some}

@@ -1,4 +1,5 @@
 -- What was read took at least as many bytes as it is written in.
+use Rattle.std.proofs.Common.{if◌then◌else◌}
 use Prim.Native.Nat.{ℕ, zero, suc, ◌+◌, ◌-◌, ◌≤◌}
 use mathlib.Core.Path.{◌≡◌, refl, sym, ◌∙◌, ap}
 use mathlib.Core.Bool.{Bool, true, false}
@@ -11,7 +12,7 @@ use Rattle.refusal.specs.declared.Refusal.{Refusal}
 use Rattle.refusal.specs.declared.Place.{Place}
 use Rattle.grammar.specs.declared.Cursor.{Cursor}
 use Rattle.grammar.specs.Outcome.{advanced, got, refused, Parser, pure, refuse, ◌>>=◌}
-use Rattle.grammar.specs.Combinators.{if◌then◌else◌, enough, taking, byte, fixed, Text, text_at, text, place, check, left, room, ◌⇒◌∣◌, unknown, many, put_all}
+use Rattle.grammar.specs.Combinators.{enough, taking, byte, fixed, Text, text_at, text, place, check, left, room, ◌⇒◌∣◌, unknown, many, put_all}
 use Rattle.grammar.specs.Number.{number, signed, zigzag, shortest}
 use Rattle.grammar.proofs.Outcome.{got-ne-refused, got-value, got-next, bind-got}
 use Rattle.grammar.proofs.Number.{zigzag-unzigzag}

@@ -1,4 +1,5 @@
 -- Switches are given back: cases, ranges, a default.
+use Rattle.std.proofs.Common.{if◌then◌else◌}
 use Prim.Native.Nat.{ℕ}
 use mathlib.Core.Path.{◌≡◌, refl}
 use mathlib.Core.Bool.{Bool, true, false, not}
@@ -6,7 +7,6 @@ use mathlib.Core.List.{List}
 use native.Mathlib.Omega.{arith}
 use lib.Dec.{eqb}
 use borrow.Author.Tests.{lt-ltb}
-use Rattle.grammar.specs.Combinators.{if◌then◌else◌}
 use Rattle.grammar.specs.RoundTrip.{Gives}
 use Rattle.grammar.proofs.RoundTrip.{itself, gives-pure, gives-check-then, gives-place-then, gives-byte-then}
 use Rattle.format.specs.declared.records.Case.{Case}

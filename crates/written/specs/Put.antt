@@ -1,6 +1,6 @@
 -- THE BYTES OF A MEANING: document 01, "The sections, in file order", section by section, each beside its line of the definition of reading.
-use Rattle.std.specs.Prelude.{ℕ, zero, suc, ◌+◌, true, false, List, [], ◌∷◌, ◌++◌, length}
-use Rattle.grammar.specs.Combinators.{if◌then◌else◌, low_bytes, put_all}
+use Rattle.std.specs.Prelude.{ℕ, zero, suc, ◌+◌, true, false, List, [], ◌∷◌, ◌++◌, length, if◌then◌else◌}
+use Rattle.grammar.specs.Combinators.{low_bytes, put_all}
 use Rattle.grammar.specs.Number.{shortest, zigzag}
 use Rattle.tables.specs.Table.{With}
 use Rattle.format.specs.declared.records.NameIndex.{NameIndex}
