@@ -7,7 +7,7 @@ if [ ! -f "$original/grain/pos/varint.rs.txt" ]; then
 fi
 GRAIN_ORIGINAL=$(cd "$original" && pwd)
 if [ ! -f target/staticlib/libgrain.a ]; then
-    echo 'fuzz/run: there is no target/staticlib/libgrain.a: rt staticlib grain makes it' >&2
+    echo 'fuzz/run: there is no target/staticlib/libgrain.a: rust/archive grain makes it' >&2
     exit 1
 fi
 FUZZER_RUNTIME=$(clang --print-file-name=libclang_rt.fuzzer-x86_64.a)

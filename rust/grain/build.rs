@@ -32,7 +32,7 @@ fn root() -> PathBuf {
 fn missing(archive: &Path) -> ! {
     fail(&format!(
         "the archive of the proved functions is missing: {}\n\
-         Make it in the root of the repository with\n\n    rt staticlib grain\n\n\
+         Make it in the root of the repository with\n\n    rust/archive grain\n\n\
          or let rust/grain/run do it.",
         archive.display()
     ))
