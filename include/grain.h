@@ -2,7 +2,7 @@
  * grain.h: the loader of Rhai Grain artifacts, and their writer.
  *
  * Link target/staticlib/libgrain.a, which `rust/archive grain` makes (x86-64, Linux). Every function here is proved to do
- * what its contract in crates/grain/src says, for every input; the words below say the same less exactly.
+ * what its contract in crates/grain_c/src says, for every input; the words below say the same less exactly.
  *
  * Any bytes and any lengths may be given: what is wrong is refused, by a number of `enum grain_refusal`. Nothing is kept
  * between calls, nothing is allocated, and nothing outside of what is lent is written.

@@ -1,7 +1,7 @@
 #!/usr/bin/env python3
 """Brings the names of definitions, lemmas and bound variables to Rattle's spelling: words in snake case.
 
-usage: python3 tools/respell.py        at the top of the repository, once, after /opt/rattle/port/port.py
+usage: python3 tools/respell.py        at the top of the repository, once, after port.py of the kit
 
 `rowIs` becomes `row_is`, and `length-lowBytes` becomes `length-low_bytes`: a dash joins two names and stays. Types and facts have
 their capital already. Where a definition would come to have the name of a lemma, the lemma gets `_lem`. Functions of src/, strings

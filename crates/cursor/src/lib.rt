@@ -128,7 +128,7 @@ impl<'a> Cursor<'a> {
     }
 }
 
-// The number in front of the bytes. Its parameter is plain, so whoever calls it needs no walk by hand.
+// The number in front of the bytes.
 pub fn first_number(bytes: &[u8]) -> ReadNumber
     ensures { numbers.number 64 bytes.now start ≡ number_is result }
 {

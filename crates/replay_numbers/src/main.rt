@@ -6,7 +6,7 @@
 //   put 300                                      the bytes of its shortest form
 //   utf8 e282ac                                  yes or no
 // Any other line is answered by `bad line`. The file stdout has what the Rust original answered (docs/BESIDE.md).
-ghost use Rattle.std.specs.Prelude.{◌≤◌, length};
+ghost use Rattle.std.specs.Prelude.{◌≡◌, ℕ, ◌<◌, ◌≤◌, ◌≢◌, length, slice_index};
 ghost use Rattle.io.specs.Counts.{IsPrefixLen};
 
 use grammar::Cursor;
@@ -221,11 +221,15 @@ fn find(bytes: &[u8], from: usize, byte: u8) -> usize
     requires { from ≤ length bytes.now }
     ensures low { from ≤ result }
     ensures high { result ≤ length bytes.now }
+    ensures found { result < length bytes.now → slice_index bytes.now result ≡ byte }
+    ensures first { (k : ℕ) → from ≤ k → k < result → slice_index bytes.now k ≢ byte }
 {
-    match bytes[from..].iter().position(|b| *b == byte) {
-        Some(k) => from + k,
-        None => bytes.len(),
+    for k in from..bytes.len() {
+        if bytes[k] == byte {
+            return k;
+        }
     }
+    bytes.len()
 }
 
 // A line's word ends at its first space, and what the word is given stands behind that.
