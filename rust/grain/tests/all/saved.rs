@@ -33,6 +33,13 @@ impl Desk {
     }
 }
 
+/// A link that a test made would be in the way of the next gate: `rt ci` takes none in the repository.
+impl Drop for Desk {
+    fn drop(&mut self) {
+        let _ = fs::remove_dir_all(&self.at);
+    }
+}
+
 /// What is in a folder, hidden files too.
 fn names(at: &Path) -> Vec<String> {
     let entries = fs::read_dir(at).unwrap().map(|entry| entry.unwrap().file_name().into_string().unwrap());
