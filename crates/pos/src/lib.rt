@@ -224,8 +224,7 @@ pub fn encode(addresses: &[u32], lines: &[u32], columns: &[u32], out: &mut [u8])
     }
 }
 
-// The same of the sites that a slice holds. Whoever calls it is proved by a walk too, as for any slice of records:
-// `encode` says the same over three slices of numbers, and its callers need none.
+// The same of the sites that a slice holds; `encode` says it over three slices of numbers, as C can lend them.
 pub fn encode_sites(sites: &[Site], out: &mut [u8]) -> Encoded
     ensures { (result ≡ encoded sites.now (length out.old)) × (out.new ≡ encoded_bytes sites.now out.old) }
 {

@@ -1,5 +1,4 @@
-// Encoding a slice of sites: both passes are one walk, whose stage says what a site is for. The borrow checker covers no
-// function over such a slice, so the walk only calls what is covered.
+// Encoding a slice of sites: both passes are one walk, whose stage says what a site is for.
 ghost use Rattle.std.specs.Prelude.{◌≡◌, length};
 ghost use Rattle.pos.specs.Passes.{unmeasured};
 ghost use Rattle.pos.specs.Stages as stages;
