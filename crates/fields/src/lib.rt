@@ -7,87 +7,47 @@ ghost use Rattle.grammar.specs.Combinators as combinators;
 ghost use Rattle.utf8.specs.Check.{is_utf8};
 ghost use Rattle.format.specs.File as definition;
 ghost use Rattle.format.specs.Rows.{bits};
-ghost use Rattle.fields.specs.Answers.{byte_is, text_is, name_is, position_is, chunk_is, chunk_slots};
+ghost use Rattle.grammar.specs.Read.{answer};
+ghost use Rattle.fields.specs.Answers.{text_is};
 
-use format::records::{Chunk, NameIndex, OptionalPosition};
-use grammar::{Cursor, Span};
+use format::records::{Chunk, NameIndex, Position};
+use grammar::{Cursor, Read, Span};
 use refusal::Refusal;
-use varint::{ReadIndex, ReadNumber, ReadSmall};
-
-#[derive(Clone, Copy)]
-pub enum ReadByte {
-    Got { value: u8, next: Cursor },
-    Refused(Refusal),
-}
-
-#[derive(Clone, Copy)]
-pub enum ReadText {
-    Got { span: Span, next: Cursor },
-    Refused(Refusal),
-}
-
-#[derive(Clone, Copy)]
-pub enum ReadName {
-    Got { name: NameIndex, next: Cursor },
-    Refused(Refusal),
-}
-
-#[derive(Clone, Copy)]
-pub enum ReadPosition {
-    Got {
-        position: OptionalPosition,
-        next: Cursor,
-    },
-    Refused(Refusal),
-}
-
-#[derive(Clone, Copy)]
-pub enum ReadChunk {
-    Got { chunk: Chunk, next: Cursor },
-    Refused(Refusal),
-}
 
 // The next byte.
-pub fn byte(s: &[u8], c: Cursor) -> ReadByte
-    ensures { combinators.byte s.now c ≡ byte_is result }
+pub fn byte(s: &[u8], c: Cursor) -> Read<u8>
+    ensures { combinators.byte s.now c ≡ answer result }
 {
     let at = c.at;
     if s.len() <= at {
-        return ReadByte::Refused(Refusal::Truncated);
+        return Err(Refusal::Truncated);
     }
-    ReadByte::Got {
-        value: s[at],
-        next: c.advance(1),
-    }
+    Ok((s[at], c.advance(1)))
 }
 
 // A run of n bytes, all of them or none.
-pub fn take(s: &[u8], c: Cursor, n: u64) -> ReadText
+pub fn take(s: &[u8], c: Cursor, n: u64) -> Read<Span>
     ensures { text n s.now c ≡ text_is s.now result }
 {
     let at = c.at;
     if s.len() < at {
-        return ReadText::Refused(Refusal::Truncated);
+        return Err(Refusal::Truncated);
     }
     let left = s.len() - at;
     if (left as u64) < n {
-        return ReadText::Refused(Refusal::Truncated);
+        return Err(Refusal::Truncated);
     }
     let size = n as usize;
-    ReadText::Got {
-        span: Span { start: at, size },
-        next: c.advance(size),
-    }
+    Ok((Span { start: at, size }, c.advance(size)))
 }
 
 // A count of bytes and the bytes.
-pub fn run(s: &[u8], c: Cursor) -> ReadText
+#[tactic(auto, using(grammar::proofs::Read::reads), unfolding(format::specs::File::bytes))]
+pub fn run(s: &[u8], c: Cursor) -> Read<Span>
     ensures { definition.bytes s.now c ≡ text_is s.now result }
 {
-    match varint::uvarint(s, c) {
-        ReadNumber::Got { value, next } => take(s, next, value),
-        ReadNumber::Refused(r) => ReadText::Refused(r),
-    }
+    let (count, c) = varint::uvarint(s, c)?;
+    take(s, c, count)
 }
 
 // Whether a run is UTF-8; what lies past the end is not there.
@@ -98,37 +58,30 @@ pub fn is_text(s: &[u8], span: Span) -> bool
 }
 
 // A string: the bytes are taken before they are judged.
-pub fn string(s: &[u8], c: Cursor) -> ReadText
+#[tactic(auto, using(grammar::proofs::Read::reads), unfolding(format::specs::File::string))]
+pub fn string(s: &[u8], c: Cursor) -> Read<Span>
     ensures { definition.string s.now c ≡ text_is s.now result }
 {
-    match run(s, c) {
-        ReadText::Got { span, next } => {
-            if is_text(s, span) {
-                ReadText::Got { span, next }
-            } else {
-                ReadText::Refused(Refusal::BadUtf8)
-            }
-        }
-        ReadText::Refused(r) => ReadText::Refused(r),
+    let (span, c) = run(s, c)?;
+    if is_text(s, span) {
+        Ok((span, c))
+    } else {
+        Err(Refusal::BadUtf8)
     }
 }
 
-pub fn name_index(s: &[u8], c: Cursor) -> ReadName
-    ensures { definition.name_index s.now c ≡ name_is result }
+#[tactic(auto, using(grammar::proofs::Read::reads), unfolding(format::specs::File::name_index))]
+pub fn name_index(s: &[u8], c: Cursor) -> Read<NameIndex>
+    ensures { definition.name_index s.now c ≡ answer result }
 {
-    match varint::index(s, c) {
-        ReadIndex::Got { value, next } => ReadName::Got {
-            name: NameIndex(value),
-            next,
-        },
-        ReadIndex::Refused(r) => ReadName::Refused(r),
-    }
+    let (value, c) = varint::index(s, c)?;
+    Ok((NameIndex(value), c))
 }
 
 // Two smalls; line 0 means none, whatever the column. Two single bytes, which nearly all are, by one test: this much is
 // inlined, and its answer does not go through memory. Called from one place, the rest would be inlined here.
-pub fn position(s: &[u8], c: Cursor) -> ReadPosition
-    ensures { definition.position s.now c ≡ position_is result }
+pub fn position(s: &[u8], c: Cursor) -> Read<Option<Position>>
+    ensures { definition.position s.now c ≡ answer result }
 {
     let at = c.at;
     if s.len() <= at {
@@ -142,10 +95,7 @@ pub fn position(s: &[u8], c: Cursor) -> ReadPosition
     if 128 <= line | column {
         return two_smalls(s, c);
     }
-    ReadPosition::Got {
-        position: at_line(wide(line), wide(column)),
-        next: c.advance(2),
-    }
+    Ok((at_line(wide(line), wide(column)), c.advance(2)))
 }
 
 fn wide(b: u8) -> u16
@@ -154,66 +104,33 @@ fn wide(b: u8) -> u16
     b as u16
 }
 
-fn two_smalls(s: &[u8], c: Cursor) -> ReadPosition
-    ensures { definition.position s.now c ≡ position_is result }
+#[tactic(auto, using(grammar::proofs::Read::reads), unfolding(format::specs::File::position))]
+fn two_smalls(s: &[u8], c: Cursor) -> Read<Option<Position>>
+    ensures { definition.position s.now c ≡ answer result }
 {
-    match varint::small(s, c) {
-        ReadSmall::Got {
-            value: line,
-            next: behind,
-        } => match varint::small(s, behind) {
-            ReadSmall::Got {
-                value: column,
-                next,
-            } => ReadPosition::Got {
-                position: at_line(line, column),
-                next,
-            },
-            ReadSmall::Refused(r) => ReadPosition::Refused(r),
-        },
-        ReadSmall::Refused(r) => ReadPosition::Refused(r),
-    }
+    let (line, c) = varint::small(s, c)?;
+    let (column, c) = varint::small(s, c)?;
+    Ok((at_line(line, column), c))
 }
 
-fn at_line(line: u16, column: u16) -> OptionalPosition
+fn at_line(line: u16, column: u16) -> Option<Position>
     ensures { result ≡ definition.placed line column }
 {
     if line == 0 {
-        OptionalPosition::Absent
+        None
     } else {
-        OptionalPosition::At { line, column }
+        Some(Position { line, column })
     }
 }
 
-pub fn chunk(s: &[u8], c: Cursor) -> ReadChunk
-    ensures { definition.chunk s.now c ≡ chunk_is result }
+#[tactic(auto, using(grammar::proofs::Read::reads), unfolding(format::specs::File::chunk))]
+pub fn chunk(s: &[u8], c: Cursor) -> Read<Chunk>
+    ensures { definition.chunk s.now c ≡ answer result }
 {
-    match varint::index(s, c) {
-        ReadIndex::Got {
-            value: entry,
-            next: behind,
-        } => match varint::index(s, behind) {
-            ReadIndex::Got {
-                value: end,
-                next: last,
-            } => chunk_slots(s, last, entry, end),
-            ReadIndex::Refused(r) => ReadChunk::Refused(r),
-        },
-        ReadIndex::Refused(r) => ReadChunk::Refused(r),
-    }
-}
-
-// The slots, behind a chunk's entry and end.
-fn chunk_slots(s: &[u8], c: Cursor, entry: u32, end: u32) -> ReadChunk
-    ensures { chunk_slots entry end s.now c ≡ chunk_is result }
-{
-    match varint::small(s, c) {
-        ReadSmall::Got { value: slots, next } => ReadChunk::Got {
-            chunk: Chunk { entry, end, slots },
-            next,
-        },
-        ReadSmall::Refused(r) => ReadChunk::Refused(r),
-    }
+    let (entry, c) = varint::index(s, c)?;
+    let (end, c) = varint::index(s, c)?;
+    let (slots, c) = varint::small(s, c)?;
+    Ok((Chunk { entry, end, slots }, c))
 }
 
 // The 64 bits of a signed number, as a row keeps them: of a negative one the complement of its complement.

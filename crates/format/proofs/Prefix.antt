@@ -3,7 +3,8 @@ use Prim.Native.Nat.{ℕ, zero, suc}
 use Rattle.grammar.specs.Outcome.{Parser}
 use Rattle.grammar.specs.Prefix.{Whole}
 use Rattle.grammar.proofs.Prefix.{whole-rules, whole-pure, whole-refuse}
-use Rattle.position_table.specs.declared.Checked.{Checked}
+use Rattle.refusal.specs.declared.Refusal.{Refusal}
+use Rattle.std.specs.Prelude.{Result, Ok, Err}
 use Rattle.tables.specs.Table.{records, Used, nested}
 use Rattle.format.specs.File.{string, bytes, list, name_index, position, chunk, header, names, kind, constant, constants, tokens, assign, assigns, root, step, tail, chain, chains, case, case_range, switch, switches, input, site, customs, access, this_type, function, functions, sound, positions, artifact}
 use Rattle.format.specs.Artifact.{Places}
@@ -124,10 +125,10 @@ whole-functions : (places parameter_places : ℕ) → Whole (functions places pa
 unfolding functions function
 whole-functions places parameter_places = search (whole-access, whole-this_type, parts) depth 40
 
-whole-sound : (answer : Checked) → Whole (sound answer)
+whole-sound : (answer : Result Unit Refusal) → Whole (sound answer)
 unfolding sound
-whole-sound Checked.Sound = whole-pure tt
-whole-sound (Checked.Refused r) = whole-refuse r
+whole-sound (Ok tt) = whole-pure tt
+whole-sound (Err r) = whole-refuse r
 
 whole-positions : Whole positions
 unfolding positions

@@ -1,7 +1,7 @@
 -- THE DEFINITION OF THE FILE: document 01, "The sections, in file order", section by section, and in each line by line.
 -- A parser gives everything that was read or the first refusal with its values. What it needs besides the bytes: the places
 -- of the thirteen tables and the mask of the step flags.
-use Rattle.std.specs.Prelude.{ℕ, zero, suc, ◌+◌, ◌-◌, ◌^◌, Bool, true, false, not, ◌&&◌, ◌||◌, List, [], ◌∷◌, length, leb, ltb, eqb, if◌then◌else◌}
+use Rattle.std.specs.Prelude.{ℕ, zero, suc, ◌+◌, ◌-◌, ◌^◌, Bool, true, false, not, ◌&&◌, ◌||◌, List, [], ◌∷◌, length, leb, ltb, eqb, if◌then◌else◌, Option, Some, None}
 use Rattle.std.specs.Int.Bits.{bit_and}
 use Rattle.refusal.specs.declared.Refusal.{Refusal}
 use Rattle.refusal.specs.declared.Place.{Place}
@@ -10,11 +10,11 @@ use Rattle.grammar.specs.Outcome.{Outcome, refused, Parser, pure, refuse, ◌>>=
 use Rattle.grammar.specs.Combinators.{byte, fixed, Text, text, place, check, left, room, ◌⇒◌∣◌, unknown, many, file}
 use Rattle.grammar.specs.Number.{number, index, small, signed}
 use Rattle.utf8.specs.Check.{is_utf8}
-use Rattle.position_table.specs.declared.Checked.{Checked}
+use Rattle.std.specs.Prelude.{Result, Ok, Err}
 use Rattle.position_table.specs.Table.{checked}
 use Rattle.tables.specs.Table.{records, Used, nested, With, count_items}
 use Rattle.format.specs.declared.records.NameIndex.{NameIndex}
-use Rattle.format.specs.declared.records.OptionalPosition.{OptionalPosition}
+use Rattle.format.specs.declared.records.Position.{Position}
 use Rattle.format.specs.declared.records.Chunk.{Chunk}
 use Rattle.format.specs.declared.records.Root.{Root}
 use Rattle.format.specs.declared.records.Tail.{Tail}
@@ -22,11 +22,9 @@ use Rattle.format.specs.declared.records.Step.{Step}
 use Rattle.format.specs.declared.records.Chain.{Chain}
 use Rattle.format.specs.declared.records.Case.{Case}
 use Rattle.format.specs.declared.records.Range.{Range}
-use Rattle.format.specs.declared.records.Literal.{Literal}
 use Rattle.format.specs.declared.records.Input.{Input}
 use Rattle.format.specs.declared.records.Site.{Site}
 use Rattle.format.specs.declared.records.Access.{Access}
-use Rattle.format.specs.declared.records.ThisType.{ThisType}
 use Rattle.format.specs.declared.records.Function.{Function}
 use Rattle.format.specs.Artifact.{Header, Names, Kind, normal, script, Constant, unit, boolean, int, float, char, str, array, map, blob, range, range_inclusive, pointer, behind, levels, Assign, Cased, UsedCases, count_cases, Places, Artifact}
 
@@ -61,10 +59,10 @@ name_index = do
   pure (record { 0 = n })
 
 -- a position is two smalls; line 0 means none, whatever the column
-abbrev pub placed : ℕ → ℕ → OptionalPosition
-placed line column = if eqb line 0 then OptionalPosition.Absent else OptionalPosition.At line column
+abbrev pub placed : ℕ → ℕ → Option Position
+placed line column = if eqb line 0 then None else Some (record { line = line; column = column })
 
-unfoldable pub position : Parser OptionalPosition
+unfoldable pub position : Parser (Option Position)
 position = do
   line ← small
   column ← small
@@ -329,7 +327,7 @@ unfoldable pub input : Parser Input
 input = do
   c ← chunk
   literal ← index
-  pure (record { chunk = c; literal = if eqb literal 0xFFFFFFFF then Literal.Absent else Literal.Present literal })
+  pure (record { chunk = c; literal = if eqb literal 0xFFFFFFFF then None else Some literal })
 
 -- key, state, inputs
 unfoldable pub site : ℕ → ℕ → Parser (With Site Input)
@@ -353,11 +351,11 @@ access = do
   (0 ⇒ pure Access.Public ∣ 1 ⇒ pure Access.Private ∣ (λ _. refuse Refusal.Truncated)) n
 
 -- 0 untyped, else one higher than the index; wider than that is Truncated
-unfoldable pub this_type : Parser ThisType
+unfoldable pub this_type : Parser (Option ℕ)
 this_type = do
   n ← number 64
   check (leb n (2 ^ 32)) Refusal.Truncated
-  pure (if eqb n 0 then ThisType.Untyped else ThisType.Typed (n - 1))
+  pure (if eqb n 0 then None else Some (n - 1))
 
 -- name, access, this_type, parameters, chunk
 unfoldable pub function : ℕ → ℕ → Parser (With Function NameIndex)
@@ -377,15 +375,15 @@ functions places parameter_places = do
 -- ── 10. code, position table, the end ──
 
 -- what a check of the table says
-unfoldable pub sound : Checked → Parser Unit
-sound Checked.Sound = pure tt
-sound (Checked.Refused r) = refuse r
+unfoldable pub sound : Result Unit Refusal → Parser Unit
+sound (Ok tt) = pure tt
+sound (Err r) = refuse r
 
 -- length 0 means stripped, otherwise the table, all its bytes taken first, is checked
 unfoldable pub positions : Parser Text
 positions = do
   t ← bytes
-  sound (if eqb t.span.size 0 then Checked.Sound else checked t.bytes)
+  sound (if eqb t.span.size 0 then Ok tt else checked t.bytes)
   pure t
 
 -- ── the whole ──

@@ -1,12 +1,13 @@
 -- How each record stands in its table: the words of its row. A word that a tag does not use is 0.
-use Rattle.std.specs.Prelude.{ℕ, zero, suc, ◌+◌, Bool, true, false, List, [], ◌∷◌, ◌++◌, length, ℤ}
+use Rattle.std.specs.Prelude.{ℕ, zero, suc, ◌+◌, Bool, true, false, List, [], ◌∷◌, ◌++◌, length, ℤ, Option, Some, None}
 use Rattle.std.specs.Int.{w64}
 use Rattle.std.proofs.Common.{of_z}
 use Rattle.grammar.specs.declared.Span.{Span}
 use Rattle.grammar.specs.Combinators.{Text}
 use Rattle.tables.specs.Table.{rows, With}
 use Rattle.format.specs.declared.records.NameIndex.{NameIndex}
-use Rattle.format.specs.declared.records.OptionalPosition.{OptionalPosition}
+use Rattle.format.specs.declared.records.Position.{Position}
+use Rattle.format.specs.declared.records.Assign.{Assign}
 use Rattle.format.specs.declared.records.Root.{Root}
 use Rattle.format.specs.declared.records.Tail.{Tail}
 use Rattle.format.specs.declared.records.Step.{Step}
@@ -14,11 +15,9 @@ use Rattle.format.specs.declared.records.Chain.{Chain}
 use Rattle.format.specs.declared.records.Case.{Case}
 use Rattle.format.specs.declared.records.Range.{Range}
 use Rattle.format.specs.declared.records.Switch.{Switch}
-use Rattle.format.specs.declared.records.Literal.{Literal}
 use Rattle.format.specs.declared.records.Input.{Input}
 use Rattle.format.specs.declared.records.Site.{Site}
 use Rattle.format.specs.declared.records.Access.{Access}
-use Rattle.format.specs.declared.records.ThisType.{ThisType}
 use Rattle.format.specs.declared.records.Function.{Function}
 use Rattle.format.specs.Artifact as A
 
@@ -27,13 +26,13 @@ abbrev pub bits : ℤ → ℕ
 bits z = of_z w64 z
 
 -- a position as its two words, line and column; none is 0 and 0
-abbrev pub line : OptionalPosition → ℕ
-line OptionalPosition.Absent = 0
-line (OptionalPosition.At l c) = l
+abbrev pub line : Option Position → ℕ
+line None = 0
+line (Some at) = at.line
 
-abbrev pub column : OptionalPosition → ℕ
-column OptionalPosition.Absent = 0
-column (OptionalPosition.At l c) = c
+abbrev pub column : Option Position → ℕ
+column None = 0
+column (Some at) = at.column
 
 -- 1 name ends: end
 abbrev pub end_row : ℕ → List ℕ
@@ -88,6 +87,12 @@ assign_row a =
     a.op_assign.span.start ∷ a.op_assign.span.size ∷ a.op_assign_name.0
     ∷ a.op.span.start ∷ a.op.span.size ∷ a.op_name.0 ∷ []
 
+-- the same of the spans alone
+abbrev pub assign_words : Assign → List ℕ
+assign_words a =
+    a.op_assign.start ∷ a.op_assign.size ∷ a.op_assign_name.0
+    ∷ a.op.start ∷ a.op.size ∷ a.op_name.0 ∷ []
+
 -- 5 chains: root tag, slot, name, line, column, operands, steps, tail tag, operator
 abbrev pub root_words : Root → List ℕ
 root_words (Root.Local slot name) = 1 ∷ slot ∷ name.0 ∷ 0 ∷ 0 ∷ []
@@ -133,9 +138,9 @@ abbrev pub site_row : Site → List ℕ
 site_row s = s.key ∷ s.state ∷ s.inputs ∷ []
 
 -- 11 inputs: entry, end, slots, literal present, literal
-abbrev pub literal_words : Literal → List ℕ
-literal_words Literal.Absent = 0 ∷ 0 ∷ []
-literal_words (Literal.Present index) = 1 ∷ index ∷ []
+abbrev pub literal_words : Option ℕ → List ℕ
+literal_words None = 0 ∷ 0 ∷ []
+literal_words (Some index) = 1 ∷ index ∷ []
 
 abbrev pub input_row : Input → List ℕ
 input_row i = i.chunk.entry ∷ i.chunk.end ∷ i.chunk.slots ∷ literal_words i.literal
@@ -146,9 +151,9 @@ access_word Access.Public = 0
 access_word Access.Private = 1
 
 -- as in the file: 0 untyped, else one higher than the index
-abbrev pub this_word : ThisType → ℕ
-this_word ThisType.Untyped = 0
-this_word (ThisType.Typed index) = index + 1
+abbrev pub this_word : Option ℕ → ℕ
+this_word None = 0
+this_word (Some index) = index + 1
 
 abbrev pub function_row : Function → List ℕ
 function_row f =

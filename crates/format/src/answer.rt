@@ -1,8 +1,7 @@
-// What the reader answers: what stands outside the tables, with the places used of each table; or the first refusal.
+// What the reader answers of an accepted file: what stands outside the tables, with the places used of each table.
 
 use crate::records::Chunk;
 use grammar::Span;
-use refusal::Refusal;
 
 #[derive(Clone, Copy)]
 pub struct Artifact {
@@ -24,7 +23,7 @@ pub struct Header {
 }
 
 // The places used of the thirteen tables, in their order.
-#[derive(Clone, Copy)]
+#[derive(Clone, Copy, Default)]
 pub struct Used {
     pub names: usize,
     pub constants: usize,
@@ -39,10 +38,4 @@ pub struct Used {
     pub inputs: usize,
     pub functions: usize,
     pub parameters: usize,
-}
-
-#[derive(Clone, Copy)]
-pub enum Answer {
-    Accepted(Artifact),
-    Refused(Refusal),
 }

@@ -4,4 +4,5 @@
 
 pub mod answer;
 pub mod records;
+pub mod rows;
 pub mod tags;

@@ -12,11 +12,11 @@ pub struct ConstantIndex(pub u32);
 #[derive(Clone, Copy)]
 pub struct OperatorIndex(pub u32);
 
-// A source position, which may be missing.
+// A source position.
 #[derive(Clone, Copy)]
-pub enum OptionalPosition {
-    Absent,
-    At { line: u16, column: u16 },
+pub struct Position {
+    pub line: u16,
+    pub column: u16,
 }
 
 // A run of code and the slots that it needs.
@@ -45,10 +45,10 @@ pub enum Root {
     Temporary,
     Named {
         name: NameIndex,
-        position: OptionalPosition,
+        position: Option<Position>,
     },
     This {
-        position: OptionalPosition,
+        position: Option<Position>,
     },
 }
 
@@ -64,22 +64,22 @@ pub enum Step {
     Index {
         flags: u8,
         operand: u16,
-        position: OptionalPosition,
-        bracket: OptionalPosition,
+        position: Option<Position>,
+        bracket: Option<Position>,
     },
     Property {
         flags: u8,
         name: NameIndex,
         getter: NameIndex,
         setter: NameIndex,
-        position: OptionalPosition,
+        position: Option<Position>,
     },
     Method {
         flags: u8,
         name: NameIndex,
         argc: u8,
         operand: u16,
-        position: OptionalPosition,
+        position: Option<Position>,
     },
 }
 
@@ -113,15 +113,9 @@ pub struct Switch {
 }
 
 #[derive(Clone, Copy)]
-pub enum Literal {
-    Absent,
-    Present { index: u32 },
-}
-
-#[derive(Clone, Copy)]
 pub struct Input {
     pub chunk: Chunk,
-    pub literal: Literal,
+    pub literal: Option<u32>,
 }
 
 #[derive(Clone, Copy)]
@@ -138,16 +132,10 @@ pub enum Access {
 }
 
 #[derive(Clone, Copy)]
-pub enum ThisType {
-    Untyped,
-    Typed { index: u32 },
-}
-
-#[derive(Clone, Copy)]
 pub struct Function {
     pub name: NameIndex,
     pub access: Access,
-    pub this_type: ThisType,
+    pub this_type: Option<u32>,
     pub parameters: u64,
     pub chunk: Chunk,
 }

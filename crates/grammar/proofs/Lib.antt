@@ -7,3 +7,4 @@ pub mod Number
 pub mod Shortest
 pub mod Written
 pub mod Example
+pub mod Read

@@ -4,6 +4,8 @@
 ghost use Rattle.std.specs.Prelude.{◌≡◌, ◌+◌, ◌<◌, ◌^◌};
 ghost use Rattle.grammar.specs.Outcome.{start, advanced};
 
+use refusal::Refusal;
+
 // Where the next byte to be read stands.
 #[derive(Clone, Copy)]
 pub struct Cursor {
@@ -16,6 +18,9 @@ pub struct Span {
     pub start: usize,
     pub size: usize,
 }
+
+// What a read answers: what it read and the next place, or why it was refused; a refused one moves nothing.
+pub type Read<T> = Result<(T, Cursor), Refusal>;
 
 impl Cursor {
     // The only function that makes a cursor, at 0.

@@ -1,10 +1,9 @@
 -- Encoding sites (document 01): those of line 0 are dropped first, and the rest must strictly ascend.
-use Rattle.std.specs.Prelude.{ℕ, ◌-◌, List, [], ◌∷◌, ◌++◌, length, leb, ltb, eqb, if◌then◌else◌}
+use Rattle.std.specs.Prelude.{ℕ, Result, Ok, Err, ◌-◌, List, [], ◌∷◌, ◌++◌, length, leb, ltb, eqb, if◌then◌else◌}
 use Rattle.std.proofs.lemmas.List.Edits.{sets}
 use Rattle.refusal.specs.declared.Refusal.{Refusal}
 use Rattle.grammar.specs.Number.{shortest}
 use Rattle.position_table.specs.declared.Site.{Site}
-use Rattle.position_table.specs.declared.Encoded.{Encoded}
 use Rattle.position_table.specs.Table.{Previous, none, earlier}
 
 -- sites held in three lists: as many as the shortest has
@@ -41,22 +40,22 @@ unfoldable pub bytes_of : List Site → List ℕ
 bytes_of sites = shortest (length sites) ++ entries_of 0 sites
 
 -- TooLong above 262,144 sites, NotAscending (the first offence), NoRoom with the bytes needed
-abbrev pub room_for : ℕ → ℕ → Encoded
-room_for needed room = if leb needed room then Encoded.Done needed else Encoded.Refused (Refusal.NoRoom needed)
+abbrev pub room_for : ℕ → ℕ → Result ℕ Refusal
+room_for needed room = if leb needed room then Ok needed else Err (Refusal.NoRoom needed)
 
-abbrev pub ordered : Order → Encoded → Encoded
+abbrev pub ordered : Order → Result ℕ Refusal → Result ℕ Refusal
 ordered ascending answer = answer
-ordered (offence address before) answer = Encoded.Refused (Refusal.NotAscending address before)
+ordered (offence address before) answer = Err (Refusal.NotAscending address before)
 
-unfoldable pub encoded : List Site → ℕ → Encoded
+unfoldable pub encoded : List Site → ℕ → Result ℕ Refusal
 encoded sites room =
-    if ltb 262144 (length sites) then Encoded.Refused (Refusal.TooLong (length sites))
+    if ltb 262144 (length sites) then Err (Refusal.TooLong (length sites))
     else ordered (order none (kept sites)) (room_for (length (bytes_of (kept sites))) room)
 
 -- what the output then holds: the bytes in front and the others as they were, or all as they were
-abbrev pub leaving : List ℕ → List ℕ → Encoded → List ℕ
-leaving bytes out (Encoded.Done size) = sets out 0 bytes
-leaving bytes out (Encoded.Refused r) = out
+abbrev pub leaving : List ℕ → List ℕ → Result ℕ Refusal → List ℕ
+leaving bytes out (Ok size) = sets out 0 bytes
+leaving bytes out (Err r) = out
 
 unfoldable pub encoded_bytes : List Site → List ℕ → List ℕ
 encoded_bytes sites out = leaving (bytes_of (kept sites)) out (encoded sites (length out))

@@ -1,5 +1,5 @@
 -- A position table (document 01): a count, then address step, line and column, each 32 bits.
-use Rattle.std.specs.Prelude.{ℕ, zero, suc, ◌+◌, ◌-◌, ◌^◌, List, [], ◌∷◌, length, ltb, eqb, if◌then◌else◌}
+use Rattle.std.specs.Prelude.{ℕ, zero, suc, Result, Ok, Err, Option, Some, None, ◌+◌, ◌-◌, ◌^◌, List, [], ◌∷◌, length, ltb, eqb, if◌then◌else◌}
 use Rattle.refusal.specs.declared.Refusal.{Refusal}
 use Rattle.refusal.specs.declared.PositionsFault.{PositionsFault}
 use Rattle.refusal.specs.Numbers.{row_of}
@@ -7,9 +7,7 @@ use Rattle.grammar.specs.Outcome.{start, Outcome, got, refused, Parser, after, p
 use Rattle.grammar.specs.Combinators.{check}
 use Rattle.grammar.specs.Number.{index}
 use Rattle.position_table.specs.declared.Site.{Site}
-use Rattle.position_table.specs.declared.Checked.{Checked}
-use Rattle.position_table.specs.declared.Counted.{Counted}
-use Rattle.position_table.specs.declared.Resolved.{Resolved}
+use Rattle.position_table.specs.declared.Position.{Position}
 
 -- in a table a number that is cut short is truncated, and one that is too long or too wide is overflow
 abbrev pub in_table : {A : Type 0} → Outcome A → Outcome A
@@ -55,19 +53,19 @@ whole s =
     (λ sites next. if eqb next.at (length s) then got sites next
     else refused (Refusal.Positions (PositionsFault.Trailing (length s - next.at))))
 
-abbrev pub as_checked : {A : Type 0} → Outcome A → Checked
-as_checked (got v next) = Checked.Sound
-as_checked (refused r) = Checked.Refused r
+abbrev pub as_checked : {A : Type 0} → Outcome A → Result Unit Refusal
+as_checked (got v next) = Ok tt
+as_checked (refused r) = Err r
 
-unfoldable pub checked : List ℕ → Checked
+unfoldable pub checked : List ℕ → Result Unit Refusal
 checked s = as_checked (whole s)
 
 -- how many entries it says it has
-abbrev pub as_counted : Outcome ℕ → Counted
-as_counted (got n next) = Counted.Entries n
-as_counted (refused r) = Counted.Refused r
+abbrev pub as_counted : Outcome ℕ → Result ℕ Refusal
+as_counted (got n next) = Ok n
+as_counted (refused r) = Err r
 
-unfoldable pub counted : List ℕ → Counted
+unfoldable pub counted : List ℕ → Result ℕ Refusal
 counted s = as_counted (field s start)
 
 -- an entry as resolving reads it, whole, behind the address before it: a zero step is walked like any other
@@ -80,24 +78,24 @@ walked address = do
   pure (record { address = address + step; line = line; column = column })
 
 -- the site where the addresses are equal and the line is not 0, else none
-abbrev pub site_for : ℕ → Site → Resolved
+abbrev pub site_for : ℕ → Site → Option Position
 site_for asked site =
-    if eqb site.address asked then (if eqb site.line 0 then Resolved.Nothing else Resolved.At site.line site.column)
-    else Resolved.Nothing
+    if eqb site.address asked then (if eqb site.line 0 then None else Some (record { line = site.line; column = site.column }))
+    else None
 
 -- the walk stops at the first entry whose address equals or passes the one asked
-unfoldable pub seek : ℕ → ℕ → ℕ → Parser Resolved
-seek zero asked address = pure Resolved.Nothing
+unfoldable pub seek : ℕ → ℕ → ℕ → Parser (Option Position)
+seek zero asked address = pure None
 seek (suc n) asked address = do
   site ← walked address
   if ltb site.address asked then seek n asked site.address else pure (site_for asked site)
 
 -- a break before the walk stops gives none
-abbrev pub or_nothing : Outcome Resolved → Resolved
-or_nothing (got r next) = r
-or_nothing (refused r) = Resolved.Nothing
+abbrev pub or_none : Outcome (Option Position) → Option Position
+or_none (got r next) = r
+or_none (refused r) = None
 
-unfoldable pub resolved : List ℕ → ℕ → Resolved
-resolved s asked = or_nothing ((do
+unfoldable pub resolved : List ℕ → ℕ → Option Position
+resolved s asked = or_none ((do
   n ← field
   seek n asked 0) s start)

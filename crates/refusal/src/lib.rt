@@ -2,22 +2,22 @@
 // Why something was refused: document 01's table, a variant for each row, under its name there and in its order.
 // From `ReadError` of format/mod.rs and `Error` of pos/mod.rs, with the rows that document 01 adds.
 ghost use Rattle.std.specs.Prelude.{◌≡◌};
-ghost use Rattle.refusal.specs.Numbers.{place_number, names_number, positions_row, row_of, row_is};
+ghost use Rattle.refusal.specs.Numbers.{positions_row, row_of, row_is};
 
-// Where the byte stood that is no known tag, or the flags outside the mask.
+// Where the byte stood that is no known tag, or the flags outside the mask, by the numbers of the table.
 #[derive(Clone, Copy)]
 pub enum Place {
-    Constant,
+    Constant = 1,
     Root,
     Flags,
     Step,
     Tail,
 }
 
-// What is wrong with the names.
+// What is wrong with the names, by the numbers of the table.
 #[derive(Clone, Copy)]
 pub enum NamesFault {
-    Falls,
+    Falls = 1,
     LastEnd,
     NotUtf8,
 }
@@ -61,31 +61,37 @@ pub struct Row {
 }
 
 // The row of document 01's table.
-pub fn row_of(r: Refusal) -> Row
-    ensures { result ≡ row_of r }
-{
-    match r {
-        Refusal::TooLong { length } => row_is(1, length as u64, 0),
-        Refusal::Truncated => row_is(2, 0, 0),
-        Refusal::BadMagic => row_is(3, 0, 0),
-        Refusal::UnsupportedVersion { found, supported } => row_is(
-            4,
-            found as u64,
-            supported as u64,
-        ),
-        Refusal::Abi { int, float } => row_is(5, int as u64, float as u64),
-        Refusal::MalformedVarint => row_is(6, 0, 0),
-        Refusal::BadUtf8 => row_is(7, 0, 0),
-        Refusal::UnknownTag { place, byte } => row_is(8, place_number(place), byte as u64),
-        Refusal::ConstantTooDeep => row_is(9, 0, 0),
-        Refusal::BadIndex { place, index } => row_is(10, place as u64, index as u64),
-        Refusal::Names(fault) => row_is(11, names_number(fault), 0),
-        Refusal::Positions(fault) => positions_row(fault),
-        Refusal::TrailingBytes { count } => row_is(13, count as u64, 0),
-        Refusal::Full { table } => row_is(14, table as u64, 0),
-        Refusal::BadModel { rule } => row_is(15, rule as u64, 0),
-        Refusal::NoRoom { needed } => row_is(16, needed as u64, 0),
-        Refusal::NotAscending { address, earlier } => row_is(17, address as u64, earlier as u64),
+impl From<Refusal> for Row {
+    ghost from_gives = { λ r row. row ≡ row_of r };
+
+    fn from(r: Refusal) -> Row {
+        match r {
+            Refusal::TooLong { length } => row_is(1, length as u64, 0),
+            Refusal::Truncated => row_is(2, 0, 0),
+            Refusal::BadMagic => row_is(3, 0, 0),
+            Refusal::UnsupportedVersion { found, supported } => row_is(
+                4,
+                found as u64,
+                supported as u64,
+            ),
+            Refusal::Abi { int, float } => row_is(5, int as u64, float as u64),
+            Refusal::MalformedVarint => row_is(6, 0, 0),
+            Refusal::BadUtf8 => row_is(7, 0, 0),
+            Refusal::UnknownTag { place, byte } => row_is(8, place as u64, byte as u64),
+            Refusal::ConstantTooDeep => row_is(9, 0, 0),
+            Refusal::BadIndex { place, index } => row_is(10, place as u64, index as u64),
+            Refusal::Names(fault) => row_is(11, fault as u64, 0),
+            Refusal::Positions(fault) => positions_row(fault),
+            Refusal::TrailingBytes { count } => row_is(13, count as u64, 0),
+            Refusal::Full { table } => row_is(14, table as u64, 0),
+            Refusal::BadModel { rule } => row_is(15, rule as u64, 0),
+            Refusal::NoRoom { needed } => row_is(16, needed as u64, 0),
+            Refusal::NotAscending { address, earlier } => row_is(
+                17,
+                address as u64,
+                earlier as u64,
+            ),
+        }
     }
 }
 
@@ -96,28 +102,6 @@ fn row_is(number: u64, first: u64, second: u64) -> Row
         number,
         first,
         second,
-    }
-}
-
-fn place_number(p: Place) -> u64
-    ensures { result ≡ place_number p }
-{
-    match p {
-        Place::Constant => 1,
-        Place::Root => 2,
-        Place::Flags => 3,
-        Place::Step => 4,
-        Place::Tail => 5,
-    }
-}
-
-fn names_number(f: NamesFault) -> u64
-    ensures { result ≡ names_number f }
-{
-    match f {
-        NamesFault::Falls => 1,
-        NamesFault::LastEnd => 2,
-        NamesFault::NotUtf8 => 3,
     }
 }
 

@@ -8,8 +8,9 @@ use lib.Seq.{sets}
 use Rattle.refusal.specs.declared.Refusal.{Refusal}
 use Rattle.grammar.specs.declared.Cursor.{Cursor}
 use Rattle.grammar.specs.Outcome.{Outcome, got, refused}
-use Rattle.tables.specs.declared.Listed.{Listed}
-use Rattle.tables.specs.Table.{rows, listed_is, used_behind, Left}
+use Rattle.std.proofs.Common.{Result, Ok, Err}
+use Rattle.grammar.specs.Read.{answer}
+use Rattle.tables.specs.Table.{rows, used_behind, Left}
 
 pub record GotList {A : Type 0} (o : Outcome (List A)) (row : A → List ℕ) (width from : ℕ) (entry exit : List ℕ) (used : ℕ) (next : Cursor) : Type 0 where
   pub all : List A
@@ -17,10 +18,10 @@ pub record GotList {A : Type 0} (o : Outcome (List A)) (row : A → List ℕ) (w
   pub counts : used ≡ from + length all
   pub table : exit ≡ sets entry (from * width) (rows row all)
 
-module _ {A : Type 0} {o : Outcome (List A)} {row : A → List ℕ} {width from : ℕ} {entry exit : List ℕ} {answer : Listed} where
-  pub left-got : Left o row width from entry exit answer → {used : ℕ} {next : Cursor} → answer ≡ Listed.Got used next →
+module _ {A : Type 0} {o : Outcome (List A)} {row : A → List ℕ} {width from : ℕ} {entry exit : List ℕ} {r : Result (ℕ × Cursor) Refusal} where
+  pub left-got : Left o row width from entry exit r → {used : ℕ} {next : Cursor} → r ≡ Ok (used, next) →
       GotList o row width from entry exit used next
-  left-got l {used} {next} e = go o refl (l.result ∙ ap listed_is e)
+  left-got l {used} {next} e = go o refl (l.result ∙ ap answer e)
     where
       go : (p : Outcome (List A)) → o ≡ p → used_behind from p ≡ got used next → GotList o row width from entry exit used next
       go (got xs last) is same =
@@ -28,9 +29,9 @@ module _ {A : Type 0} {o : Outcome (List A)} {row : A → List ℕ} {width from 
           record { all = xs; is = is ∙ ap (λ k. got xs k) here; counts = cc; table = l.table xs last is }
       go (refused r) is same = let z : ◌≡◌ {A = ℕ} 0 1 = cc in absurd (omega arith)
 
-  pub left-no-more : Left o row width from entry exit answer → {r : Refusal} → answer ≡ Listed.Refused r → o ≡ refused r
-  left-no-more l {r} e = go o refl (l.result ∙ ap listed_is e)
+  pub left-no-more : Left o row width from entry exit r → {why : Refusal} → r ≡ Err why → o ≡ refused why
+  left-no-more l {why} e = go o refl (l.result ∙ ap answer e)
     where
-      go : (p : Outcome (List A)) → o ≡ p → used_behind from p ≡ refused r → o ≡ refused r
+      go : (p : Outcome (List A)) → o ≡ p → used_behind from p ≡ refused why → o ≡ refused why
       go (got xs last) is same = let z : ◌≡◌ {A = ℕ} 0 1 = cc in absurd (omega arith)
-      go (refused q) is same = let why : q ≡ r = cc in is ∙ ap (λ k. refused k) why
+      go (refused q) is same = let same_one : q ≡ why = cc in is ∙ ap (λ k. refused k) same_one

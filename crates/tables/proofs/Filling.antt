@@ -11,7 +11,7 @@ use Rattle.refusal.specs.declared.Refusal.{Refusal}
 use Rattle.grammar.specs.declared.Cursor.{Cursor}
 use Rattle.grammar.specs.Outcome.{Outcome, got, refused, Parser, pure, refuse, ◌>>=◌, ◌>>◌}
 use Rattle.grammar.specs.Combinators.{check, room, many}
-use Rattle.tables.specs.declared.Listed.{Listed}
+use Rattle.std.proofs.Common.{Ok, Err}
 use Rattle.tables.specs.Table.{Left, records}
 use Rattle.tables.proofs.Listing.{Listing, listing_none, listing-more, listing-refused, listing-left, listing-done, Stored, stored-none, stored_more}
 
@@ -70,7 +70,7 @@ module _ {A : Type 0} {table places : ℕ} {p : Parser A} {row : A → List ℕ}
 -- none is left
 pub filling-done : {A : Type 0} {table places : ℕ} {p : Parser A} {row : A → List ℕ} {width : ℕ} {s : List ℕ} {c : Cursor} {n from : ℕ}
     {entry t : List ℕ} {now : Cursor} {left used : ℕ} → Filling table places p row width s c n from entry t now left used → left ≡ 0 →
-    Left (records table places p n from s c) row width from entry t (Listed.Got used now)
+    Left (records table places p n from s c) row width from entry t (Ok (used, now))
 unfolding records
 filling-done {table = table} {places} {p} {s = s} {c} {n} {from} {now = now} g e =
     record {
@@ -83,7 +83,7 @@ filling-done {table = table} {places} {p} {s = s} {c} {n} {from} {now = now} g e
 
 -- a refusal says nothing of the table
 pub left-refused : {A : Type 0} {o : Outcome (List A)} {row : A → List ℕ} {width from : ℕ} {entry exit : List ℕ} {r : Refusal} →
-    o ≡ refused r → Left o row width from entry exit (Listed.Refused r)
+    o ≡ refused r → Left o row width from entry exit (Err r)
 left-refused e = record { result = rw e; table = λ xs next is. absurd (never (e) is) }
   where
     never : {A : Type 0} {o : Outcome (List A)} {r : Refusal} {xs : List A} {next : Cursor} → o ≡ refused r → o ≡ got xs next → ⊥

@@ -5,3 +5,7 @@ pub mod Filling
 pub mod Nesting
 pub mod Fitting
 pub mod Answers
+pub mod Rows
+pub mod Reading
+pub mod Both
+pub mod Got

@@ -50,18 +50,6 @@ filled-front size ws h =
 
 -- ── words in front, and zeros behind them ──
 
--- a zero stored behind them is one word more in front
-front-suc : (t : List ℕ) (at : ℕ) → at < length t → front at t ≡ front (suc at) (set t at 0)
-front-suc [] at h = absurd (omega arith)
-front-suc (x ∷ t) zero h = let e : suc (length t) - 1 ≡ length t = omega arith in let f : suc (length t) - 0 ≡ suc (length t) = omega arith in rw (e, f)
-front-suc (x ∷ t) (suc at) h =
-    let e : suc (length t) - suc at ≡ length t - at = omega arith in
-    let f : suc (length (set t at 0)) - suc (suc at) ≡ length (set t at 0) - suc at = omega arith in
-    rw (e, f) (ap (λ (l : List ℕ). x ∷ l) (front-suc t at (omega arith)))
-
-pub front-next : (t : List ℕ) (at : ℕ) → at < length t → front at t ≡ front (at + 1) (set t at 0)
-front-next t at h = rw (add-one at) (front-suc t at h)
-
 pub front-all : (t : List ℕ) (n : ℕ) → length t ≤ n → front n t ≡ t
 front-all t n h = let e : length t - n ≡ 0 = omega arith in rw (e, take_all n t h) (append-nil t)
 

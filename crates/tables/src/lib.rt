@@ -1,39 +1,18 @@
 #![tactic(auto)]
 // Lent tables of words: cleared, and filled a row at a time.
-ghost use Rattle.std.specs.Prelude.{◌≡◌, ◌+◌, ◌*◌, ◌≤◌, ◌<◌, length, replicate};
+ghost use Rattle.std.specs.Prelude.{◌≡◌, ◌+◌, ◌*◌, ◌/◌, ◌≤◌, ◌<◌, length, replicate, List, ℕ};
 ghost use Rattle.std.proofs.lemmas.List.Edits.{sets};
-ghost use Rattle.tables.specs.Table.{front};
+ghost use Rattle.grammar.specs.Outcome.{Parser};
+ghost use Rattle.tables.specs.Table.{front, ReadsRows, Left, records};
 
-use grammar::Cursor;
+use grammar::{Cursor, Read};
 use refusal::Refusal;
-
-// A list that was read: the places used behind it, and the next place in the file.
-#[derive(Clone, Copy)]
-pub enum Listed {
-    Got { used: usize, next: Cursor },
-    Refused(Refusal),
-}
-
-// A list whose records have items in a table of their own: the places used of both, and the next place in the file.
-#[derive(Clone, Copy)]
-pub enum Nested {
-    Got {
-        used: usize,
-        items: usize,
-        next: Cursor,
-    },
-    Refused(Refusal),
-}
 
 // Every word 0.
 pub fn clear(t: &mut [u64])
     ensures { t.new ≡ replicate (length t.old) 0 }
 {
-    let mut i = 0;
-    while i < t.len() {
-        t[i] = 0;
-        i += 1;
-    }
+    t.fill(0);
 }
 
 // Every word behind so many rows 0; the rows stay.
@@ -44,11 +23,7 @@ pub fn clear_behind(t: &mut [u64], rows: usize, width: usize)
     if t.len() / width < rows {
         return;
     }
-    let mut at = rows * width;
-    while at < t.len() {
-        t[at] = 0;
-        at += 1;
-    }
+    t[rows * width..].fill(0);
 }
 
 // A row from a word on, for callers that have tested that there is a place for it.
@@ -56,9 +31,35 @@ pub fn store(t: &mut [u64], at: usize, row: &[u64])
     requires { at + length row.now ≤ length t.old }
     ensures { t.new ≡ sets t.old at row.now }
 {
-    let mut i = 0;
-    while i < row.len() {
-        t[at + i] = row[i];
-        i += 1;
+    t[at..at + row.len()].copy_from_slice(row);
+}
+
+// The records of a list, each a row of W words behind the places used of its table; `read` reads one. (It answers what converts
+// to a row, since the bound of a closure may not name W.)
+pub fn records<const W: usize, R: Into<[u64; W]>, F: Fn(Cursor) -> Read<R>>(
+    table: u8,
+    n: u64,
+    c: Cursor,
+    t: &mut [u64],
+    from: usize,
+    read: F,
+) -> Read<usize>
+    requires wide { 0 < W }
+    requires callable { F.IsAlwaysCallable read }
+    ensures { (s : List ℕ) (p : Parser (List ℕ)) → ReadsRows (F.post read) R.converts s p → Left (records table (length t.old / W) p n from s c) (λ row. row) W from t.old t.new result }
+{
+    let places = t.len() / W;
+    let mut used = from;
+    let mut c = c;
+    for _ in 0..n {
+        if places <= used {
+            return Err(Refusal::Full { table });
+        }
+        let (record, next) = read(c)?;
+        let row: [u64; W] = record.into();
+        store(t, used * W, &row);
+        c = next;
+        used += 1;
     }
+    Ok((used, c))
 }

@@ -1,6 +1,5 @@
 -- The mathematics of the reads and of put, over plain numbers and lists.
 pub mod Groups
-pub mod Narrow
 pub mod Halves
 pub mod Shortest
 pub mod Word

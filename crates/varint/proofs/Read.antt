@@ -1,27 +1,20 @@
 -- What the private reads of a number answer: near the end by the groups held, else by the word behind the first byte.
-use Rattle.std.proofs.Common.{◌≡◌, ℕ, zero, suc, ◌+◌, ◌-◌, ◌*◌, ◌/◌, ◌%◌, ◌^◌, ◌<◌, ◌≤◌, Bool, true, false, eqb, List, length, get_or, sym, refl, ◌∙◌, le_trans, add-zero, mod-eq_of_lt, mul-le-mul_left, arith, shl_exact, le-ltb, lt-ltb, eq-eqb, ne_eqb, eqb-true}
+use Rattle.std.proofs.Common.{◌≡◌, ℕ, zero, suc, ◌+◌, ◌-◌, ◌*◌, ◌/◌, ◌%◌, ◌^◌, ◌<◌, ◌≤◌, Bool, true, false, eqb, List, length, get_or, sym, refl, ◌∙◌, le_trans, add-zero, mod-eq_of_lt, mul-le-mul_left, arith, shl_exact, le-ltb, lt-ltb, eqb-true}
 use lib.Bits.{bit_and, bit_or, and_mask, or_shifted_r}
 use lib.Count.{count_trailing_zeros, trailing_le, trailing_of_zero}
 use borrow.Author.Tests.{eqb-false}
 use Rattle.refusal.specs.declared.Refusal.{Refusal}
-use Rattle.grammar.specs.declared.Cursor.{Cursor}
 use Rattle.grammar.specs.Outcome.{advanced, got, refused}
 use Rattle.grammar.specs.Number.{number}
 use Rattle.varint.specs.Holding.{Holding}
-use Rattle.varint.specs.Answered.{place, why_not, answered}
+use Rattle.varint.specs.Answered.{place, why_not}
 use Rattle.varint.specs.Word.{word, bytes_at, payloads, Bytes}
 use Rattle.varint.proofs.Groups.{none_left, holding-none, holding-cut, holding-last, holding-more, holding-tenth, holding-over}
 use Rattle.varint.proofs.Word.{ends, tops, taken, kept, word_lt, ends-are, kept-is, kept-all, zeros-are, taken-le}
 use Rattle.varint.proofs.Ended.{value, holding-ended, holding-endless}
 use Rattle.varint.proofs.Payloads.{payloads-lt, payloads-are, length_at}
 
--- each answer of a read as the outcome it stands for
-pub answered-some : (left : ℕ) (c : Cursor) (v n : ℕ) → (n ≡ 0 → ⊥) → answered left c v n ≡ got v (advanced c n)
-answered-some left c v n h = rw (ne_eqb n 0 h)
-
-pub answered-none : (left : ℕ) (c : Cursor) (v n : ℕ) → n ≡ 0 → answered left c v n ≡ refused (why_not left)
-answered-none left c v n h = rw (eq-eqb n 0 h)
-
+-- why a number is refused
 pub cut-is : (left : ℕ) → left < 10 → why_not left ≡ Refusal.Truncated
 cut-is left h = rw (lt-ltb left 10 h)
 
@@ -162,9 +155,9 @@ module _ {s : List ℕ} {at first left x b : ℕ} (all : left ≡ length s - at)
           (omega (arith, value-is))
 
       pub answers-within : (zeros x / 8 + 2 ≤ left)
-          × (number 64 s (place at) ≡ answered left (place at) (bit_or (bit_or first (size * 2 ^ 7 % 2 ^ 64)) (tenth b x * 2 ^ 63 % 2 ^ 64)) (zeros x / 8 + 2))
+          × (number 64 s (place at) ≡ got (bit_or (bit_or first (size * 2 ^ 7 % 2 ^ 64)) (tenth b x * 2 ^ 63 % 2 ^ 64)) (advanced (place at) (zeros x / 8 + 2)))
       answers-within =
-          (omega (arith, zeros-few x), rw joined (go (eqb (marks x) 0) refl ∙ sym (answered-some left (place at) _ (zeros x / 8 + 2) (omega arith))))
+          (omega (arith, zeros-few x), rw joined (go (eqb (marks x) 0) refl))
         where
           go : (t : Bool) → eqb (marks x) 0 ≡ t → number 64 s (place at) ≡ got (first + value (behind s at) * 2 ^ 7 + tenth b x * 2 ^ 63) (advanced (place at) (zeros x / 8 + 2))
           go true e =

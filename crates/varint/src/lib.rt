@@ -1,53 +1,17 @@
-#![tactic(auto)]
+#![tactic(auto, using(grammar::proofs::Read::reads))]
 // LEB128, the encoding everything in a Rhai Grain artifact is counted in (pos/varint.rs, and the number reads of
 // `Cursor` in format/mod.rs). A read takes the bytes and a place and answers the next place; a refused one moves nothing.
-ghost use Rattle.std.specs.Prelude.{◌≡◌, ◌+◌, ◌-◌, ◌*◌, ◌%◌, ◌^◌, ◌<◌, ◌≤◌, length};
+ghost use Rattle.std.specs.Prelude.{◌≡◌, ◌+◌, ◌-◌, ◌*◌, ◌%◌, ◌^◌, ◌<◌, ◌≤◌, IfOk, IfSome, length};
 ghost use Rattle.std.proofs.lemmas.List.Edits.{sets};
 ghost use Rattle.grammar.specs.Number as definition;
-ghost use Rattle.varint.specs.Answers.{number_is, index_is, small_is, signed_is, written_is, put_bytes};
+ghost use Rattle.grammar.specs.Read.{answer};
+ghost use Rattle.varint.specs.Answers.{written_is, put_bytes};
 ghost use Rattle.varint.specs.Holding.{Holding};
 ghost use Rattle.varint.specs.Word.{word, bytes_at, Bytes, payloads};
 ghost use Rattle.varint.specs.Answered.{place, answered};
 
-use grammar::Cursor;
+use grammar::{Cursor, Read};
 use refusal::Refusal;
-
-#[derive(Clone, Copy)]
-pub enum ReadNumber {
-    Got { value: u64, next: Cursor },
-    Refused(Refusal),
-}
-
-#[derive(Clone, Copy)]
-pub enum ReadIndex {
-    Got { value: u32, next: Cursor },
-    Refused(Refusal),
-}
-
-#[derive(Clone, Copy)]
-pub enum ReadSmall {
-    Got { value: u16, next: Cursor },
-    Refused(Refusal),
-}
-
-#[derive(Clone, Copy)]
-pub enum ReadSigned {
-    Got { value: i64, next: Cursor },
-    Refused(Refusal),
-}
-
-// What put did: the bytes written, or why none was.
-#[derive(Clone, Copy)]
-pub enum Written {
-    Done { size: usize },
-    Refused(Refusal),
-}
-
-fn wide(b: u8) -> u64
-    ensures { result ≡ b }
-{
-    b as u64
-}
 
 // The value with the byte's seven payload bits behind the k groups that it holds already.
 fn joined(value: u64, byte: u8, k: usize) -> u64
@@ -55,10 +19,10 @@ fn joined(value: u64, byte: u8, k: usize) -> u64
     requires value_bound { value < 2 ^ (7 * k) }
     ensures { result ≡ value + byte % 128 * 2 ^ (7 * k) }
 {
-    value | wide(byte & 0x7f) << 7 * k
+    value | ((byte & 0x7f) as u64) << 7 * k
 }
 
-// A number's groups as read: of a refused one no byte is taken.
+// A number as read, and how many bytes it takes.
 #[derive(Clone, Copy)]
 struct Number {
     value: u64,
@@ -66,37 +30,22 @@ struct Number {
 }
 
 // An unsigned number.
-pub fn uvarint(s: &[u8], c: Cursor) -> ReadNumber
-    ensures { definition.number 64 s.now c ≡ number_is result }
+pub fn uvarint(s: &[u8], c: Cursor) -> Read<u64>
+    ensures { definition.number 64 s.now c ≡ answer result }
 {
-    let at = c.at;
-    let left = rest(s, at);
-    let g = read_groups(s, at, left);
-    let taken = g.taken;
-    if taken == 0 {
-        if left < 10 {
-            return ReadNumber::Refused(Refusal::Truncated);
-        }
-        return ReadNumber::Refused(Refusal::MalformedVarint);
+    let left = s.len().saturating_sub(c.at);
+    match read_groups(s, c.at, left) {
+        Some(number) => Ok((number.value, c.advance(number.taken))),
+        None if left < 10 => Err(Refusal::Truncated),
+        None => Err(Refusal::MalformedVarint),
     }
-    ReadNumber::Got {
-        value: g.value,
-        next: c.advance(taken),
-    }
-}
-
-// How many bytes stand from a place on.
-fn rest(s: &[u8], at: usize) -> usize
-    ensures { result ≡ length s.now - at }
-{
-    if at < s.len() { s.len() - at } else { 0 }
 }
 
 // Where all of ten bytes are there, none has to be asked for.
-fn read_groups(s: &[u8], at: usize, left: usize) -> Number
+fn read_groups(s: &[u8], at: usize, left: usize) -> Option<Number>
     requires { left ≡ length s.now - at }
-    ensures taken_le_left { result.taken ≤ left }
-    ensures at_value { definition.number 64 s.now (place at) ≡ answered left (place at) result.value result.taken }
+    ensures taken_le_left { IfSome result (λ number. number.taken ≤ left) }
+    ensures at_value { definition.number 64 s.now (place at) ≡ answered left (place at) result }
 {
     if left < 10 {
         short(s, at, left)
@@ -106,63 +55,64 @@ fn read_groups(s: &[u8], at: usize, left: usize) -> Number
 }
 
 // Near the end of the bytes: one group after the other.
-fn short(s: &[u8], at: usize, left: usize) -> Number
+fn short(s: &[u8], at: usize, left: usize) -> Option<Number>
     requires left_value { left ≡ length s.now - at }
     requires left_bound { left < 10 }
-    ensures taken_le_left { result.taken ≤ left }
-    ensures at_value { definition.number 64 s.now (place at) ≡ answered left (place at) result.value result.taken }
+    ensures taken_le_left { IfSome result (λ number. number.taken ≤ left) }
+    ensures at_value { definition.number 64 s.now (place at) ≡ answered left (place at) result }
 {
     let mut value: u64 = 0;
-    let mut k: usize = 0;
-    while k < left {
+    for k in 0..left {
         let group = s[at + k];
         value = joined(value, group, k);
-        k += 1;
         if group < 128 {
-            return Number { value, taken: k };
+            return Some(Number {
+                value,
+                taken: k + 1,
+            });
         }
     }
-    Number { value: 0, taken: 0 }
+    None
 }
 
 // Most numbers are of one byte.
-fn long(s: &[u8], at: usize, left: usize) -> Number
+fn long(s: &[u8], at: usize, left: usize) -> Option<Number>
     requires left_value { left ≡ length s.now - at }
     requires le_left { 10 ≤ left }
-    ensures taken_le_left { result.taken ≤ left }
-    ensures at_value { definition.number 64 s.now (place at) ≡ answered left (place at) result.value result.taken }
+    ensures taken_le_left { IfSome result (λ number. number.taken ≤ left) }
+    ensures at_value { definition.number 64 s.now (place at) ≡ answered left (place at) result }
 {
     let first = s[at];
     if first < 128 {
-        return Number {
-            value: wide(first),
+        return Some(Number {
+            value: first as u64,
             taken: 1,
-        };
+        });
     }
-    behind_one(s, at, left, wide(first & 0x7f))
+    behind_one(s, at, left, (first & 0x7f) as u64)
 }
 
 // The next eight bytes are read as one word, and the tenth counts where none of them ends the number: no step waits for a
 // byte's end mark.
-fn behind_one(s: &[u8], at: usize, left: usize, first: u64) -> Number
+fn behind_one(s: &[u8], at: usize, left: usize, first: u64) -> Option<Number>
     requires left_value { left ≡ length s.now - at }
     requires le_left { 10 ≤ left }
     requires holding { Holding s.now (place at) first 1 }
-    ensures taken_le_left { result.taken ≤ left }
-    ensures at_value { definition.number 64 s.now (place at) ≡ answered left (place at) result.value result.taken }
+    ensures taken_le_left { IfSome result (λ number. number.taken ≤ left) }
+    ensures at_value { definition.number 64 s.now (place at) ≡ answered left (place at) result }
 {
     let x = eight(s, at + 1);
     let ends = !x & 0x8080_8080_8080_8080;
     let zeros = u64::trailing_zeros(ends);
-    let tenth = wide(s[at + 9]) * (zeros / 64) as u64;
+    let tenth = s[at + 9] as u64 * (zeros / 64) as u64;
     if 1 < tenth {
-        return Number { value: 0, taken: 0 };
+        return None;
     }
     let kept = x & std::num::wrapping_sub_u64(ends, 1);
-    Number {
+    Some(Number {
         value: first | squeezed(kept) << 7 | tenth << 63,
         taken: (zeros / 8) as usize + 2,
-    }
+    })
 }
 
 // Eight bytes as one word, the first lowest; it is compiled to one load.
@@ -171,11 +121,14 @@ fn eight(s: &[u8], at: usize) -> u64
     ensures value { result ≡ word (bytes_at s.now at 8) }
     ensures bytes { Bytes (bytes_at s.now at 8) }
 {
-    let low = wide(s[at]) | wide(s[at + 1]) << 8 | wide(s[at + 2]) << 16 | wide(s[at + 3]) << 24;
-    low | wide(s[at + 4]) << 32
-        | wide(s[at + 5]) << 40
-        | wide(s[at + 6]) << 48
-        | wide(s[at + 7]) << 56
+    let low = s[at] as u64
+        | (s[at + 1] as u64) << 8
+        | (s[at + 2] as u64) << 16
+        | (s[at + 3] as u64) << 24;
+    low | (s[at + 4] as u64) << 32
+        | (s[at + 5] as u64) << 40
+        | (s[at + 6] as u64) << 48
+        | (s[at + 7] as u64) << 56
 }
 
 // The payloads of eight bytes side by side: of neighbours, of pairs, and of fours.
@@ -187,55 +140,43 @@ fn squeezed(x: u64) -> u64
     b & 0x0fff_ffff | (b & 0x0fff_ffff_0000_0000) >> 4
 }
 
-// A number of 32 bits, as indices are.
-pub fn index(s: &[u8], c: Cursor) -> ReadIndex
-    ensures { definition.index s.now c ≡ index_is result }
+// A number of fewer bits.
+fn narrow<const BITS: u32>(s: &[u8], c: Cursor) -> Read<u64>
+    requires { BITS < 64 }
+    ensures value { definition.number BITS s.now c ≡ answer result }
+    ensures fits { IfOk result (λ read. read.0 < 2 ^ BITS) }
 {
-    match uvarint(s, c) {
-        ReadNumber::Got { value, next } => {
-            if value <= 0xffff_ffff {
-                ReadIndex::Got {
-                    value: value as u32,
-                    next,
-                }
-            } else {
-                ReadIndex::Refused(Refusal::MalformedVarint)
-            }
-        }
-        ReadNumber::Refused(r) => ReadIndex::Refused(r),
+    let (value, next) = uvarint(s, c)?;
+    if value < 1 << BITS {
+        Ok((value, next))
+    } else {
+        Err(Refusal::MalformedVarint)
     }
+}
+
+// A number of 32 bits, as indices are.
+pub fn index(s: &[u8], c: Cursor) -> Read<u32>
+    ensures { definition.index s.now c ≡ answer result }
+{
+    let (value, next) = narrow::<32>(s, c)?;
+    Ok((value as u32, next))
 }
 
 // A number of 16 bits.
-pub fn small(s: &[u8], c: Cursor) -> ReadSmall
-    ensures { definition.small s.now c ≡ small_is result }
+pub fn small(s: &[u8], c: Cursor) -> Read<u16>
+    ensures { definition.small s.now c ≡ answer result }
 {
-    match uvarint(s, c) {
-        ReadNumber::Got { value, next } => {
-            if value <= 0xffff {
-                ReadSmall::Got {
-                    value: value as u16,
-                    next,
-                }
-            } else {
-                ReadSmall::Refused(Refusal::MalformedVarint)
-            }
-        }
-        ReadNumber::Refused(r) => ReadSmall::Refused(r),
-    }
+    let (value, next) = narrow::<16>(s, c)?;
+    Ok((value as u16, next))
 }
 
 // A signed number.
-pub fn ivarint(s: &[u8], c: Cursor) -> ReadSigned
-    ensures { definition.signed s.now c ≡ signed_is result }
+#[tactic(auto, using(grammar::proofs::Read::reads), unfolding(grammar::specs::Number::signed))]
+pub fn ivarint(s: &[u8], c: Cursor) -> Read<i64>
+    ensures { definition.signed s.now c ≡ answer result }
 {
-    match uvarint(s, c) {
-        ReadNumber::Got { value, next } => ReadSigned::Got {
-            value: unzigzag(value),
-            next,
-        },
-        ReadNumber::Refused(r) => ReadSigned::Refused(r),
-    }
+    let (folded, next) = uvarint(s, c)?;
+    Ok((unzigzag(folded), next))
 }
 
 // The signed number that an unsigned one means: the complement of the half is minus the half and one.
@@ -268,16 +209,16 @@ pub fn size(value: u64) -> usize
 }
 
 // The shortest form into the front of `out`; where it has no room nothing is touched.
-pub fn put(out: &mut [u8], value: u64) -> Written
+pub fn put(out: &mut [u8], value: u64) -> Result<usize, Refusal>
     ensures value { result ≡ written_is (length out.old) value }
     ensures out_after { out.new ≡ put_bytes out.old value }
 {
     let needed = size(value);
     if out.len() < needed {
-        return Written::Refused(Refusal::NoRoom { needed });
+        return Err(Refusal::NoRoom { needed });
     }
     put_at(out, 0, value);
-    Written::Done { size: needed }
+    Ok(needed)
 }
 
 // The same from a place on, for callers that have tested the room; the place behind it is handed back.
@@ -288,6 +229,7 @@ pub fn put_at(out: &mut [u8], at: usize, value: u64) -> usize
 {
     let mut rest = value;
     let mut k: usize = 0;
+    // Not a `for`: how many groups there are is known by what is left of the value.
     while 128 <= rest {
         out[at + k] = (rest & 0x7f) as u8 | 0x80;
         rest = rest >> 7;

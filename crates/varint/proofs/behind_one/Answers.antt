@@ -1,5 +1,5 @@
 -- Each answer is one lemma of Read, over the word that eight bytes make and the tenth byte.
-use Rattle.std.proofs.Common.{arith}
+use Rattle.std.proofs.Common.{arith, get_or, refl, ◌+◌, ◌<◌}
 use Rattle.varint.proofs.Read.{zeros-few, tenth-few, answers-over, answers-within}
 use Rattle.varint.proofs.behind_one.Goals as goal
 
@@ -9,11 +9,11 @@ overflow_cast-tenth c =
 
 pub overflow_mul-tenth : goal.overflow_mul-tenth
 overflow_mul-tenth c =
-    omega (arith, c.wide.type_inv, tenth-few c.wide.result c.eight-x.result)
+    let byte : get_or c.args.s.now (c.args.at + 9) 0 < 256 = omega (arith, c.type_inv.s (c.args.at + 9)) in omega (arith, tenth-few (get_or c.args.s.now (c.args.at + 9) 0) c.eight-x.result)
 
 pub returns-then-tenth-gt1 : goal.returns-then-tenth-gt1
 returns-then-tenth-gt1 c =
-    record { taken_le_left = omega arith; at_value = answers-over c.requires.left_value c.requires.le_left c.requires.holding c.eight-x.ensures.value c.eight-x.ensures.bytes c.wide.ensures c.if-tenth-gt1.true }
+    record { taken_le_left = tt; at_value = answers-over c.requires.left_value c.requires.le_left c.requires.holding c.eight-x.ensures.value c.eight-x.ensures.bytes refl c.if-tenth-gt1.true }
 
 pub overflow_cast-result : goal.overflow_cast-result
 overflow_cast-result c =
@@ -25,4 +25,4 @@ overflow_add-result c =
 
 pub returns : goal.returns
 returns c =
-    record { taken_le_left = (answers-within c.requires.left_value c.requires.le_left c.requires.holding c.eight-x.ensures.value c.eight-x.ensures.bytes c.wide.ensures c.wrapping_sub_u64.ensures.value (omega (arith, c.wrapping_sub_u64.type_inv)) c.squeezed.ensures c.if-tenth-gt1.false).0; at_value = (answers-within c.requires.left_value c.requires.le_left c.requires.holding c.eight-x.ensures.value c.eight-x.ensures.bytes c.wide.ensures c.wrapping_sub_u64.ensures.value (omega (arith, c.wrapping_sub_u64.type_inv)) c.squeezed.ensures c.if-tenth-gt1.false).1 }
+    record { taken_le_left = (answers-within c.requires.left_value c.requires.le_left c.requires.holding c.eight-x.ensures.value c.eight-x.ensures.bytes refl c.wrapping_sub_u64.ensures.value (omega (arith, c.wrapping_sub_u64.type_inv)) c.squeezed.ensures c.if-tenth-gt1.false).0; at_value = (answers-within c.requires.left_value c.requires.le_left c.requires.holding c.eight-x.ensures.value c.eight-x.ensures.bytes refl c.wrapping_sub_u64.ensures.value (omega (arith, c.wrapping_sub_u64.type_inv)) c.squeezed.ensures c.if-tenth-gt1.false).1 }

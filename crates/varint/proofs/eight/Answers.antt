@@ -7,4 +7,4 @@ use Rattle.varint.proofs.eight.Goals as goal
 pub returns : goal.returns
 returns c =
     let each : (i : ℕ) → get_or c.args.s.now i 0 < 256 = λ i. (omega (arith, c.type_inv.s i)) in
-    record { value = rw (c.wide.ensures, c.wide-2.ensures, c.wide-3.ensures, c.wide-4.ensures, c.wide-5.ensures, c.wide-6.ensures, c.wide-7.ensures, c.wide-8.ensures) (eight_are c.args.s.now each c.args.at); bytes = bytes-at c.args.s.now each c.args.at 8 }
+    record { value = (eight_are c.args.s.now each c.args.at); bytes = bytes-at c.args.s.now each c.args.at 8 }

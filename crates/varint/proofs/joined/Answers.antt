@@ -1,10 +1,7 @@
--- src/lib.rt:43:13
--- src/lib.rt:43:34
--- src/lib.rt:43:13
--- src/lib.rt:38:1
+-- The groups side by side.
 use Rattle.varint.proofs.Groups.{joined_is}
 use Rattle.varint.proofs.joined.Goals as goal
 
 pub returns : goal.returns
 returns c =
-    rw c.wide.ensures (joined_is _ _ _ c.requires.k_bound c.requires.value_bound)
+    joined_is _ _ _ c.requires.k_bound c.requires.value_bound

@@ -1,11 +1,8 @@
 -- The loop holds k groups, of which the first is there where any byte is.
-use Rattle.std.proofs.Common.{◌-◌, ◌<◌, ◌≤◌}
+use Rattle.std.proofs.Common.{◌<◌}
 use Rattle.varint.specs.Holding.{Holding}
 use Rattle.varint.specs.Answered.{place}
 use Rattle.varint.proofs.short.Given as goal
 
 abbrev pub invariant-loop-k : goal.invariant-loop-k
-invariant-loop-k l = l.k ≤ l.left × (0 < l.left → Holding l.s (place l.at) l.value l.k)
-
-abbrev pub decreases-loop-k : goal.decreases-loop-k
-decreases-loop-k l = l.left - l.k
+invariant-loop-k l = 0 < l.left → Holding l.s (place l.at) l.value l.k
