@@ -69,13 +69,15 @@ fn mix_two(id: DebugId, first: u8, second: u8) -> DebugId
 fn absorb(id: DebugId, bytes: &[u8]) -> DebugId
     ensures { number_of result ≡ mixed_all (number_of id) bytes.now }
 {
+    let (pairs, last) = bytes.as_chunks::<2>();
     let mut d = id;
-    let mut i = 0;
-    while bytes.len() - i > 1 {
-        d = mix_two(d, bytes[i], bytes[i + 1]);
-        i += 2;
+    for pair in pairs {
+        d = mix_two(d, pair[0], pair[1]);
     }
-    if i < bytes.len() { mix(d, bytes[i]) } else { d }
+    match last {
+        [byte] => mix(d, *byte),
+        _ => d,
+    }
 }
 
 // The debug id of a table and of the chain bytes.

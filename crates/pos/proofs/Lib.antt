@@ -3,4 +3,3 @@ pub mod Shorts
 pub mod Walks
 pub mod Puts
 pub mod Sites
-pub mod Staged

@@ -1,15 +1,12 @@
--- One site: how many bytes it takes, and what the steps of both passes make of their state.
-use Rattle.std.proofs.Common.{◌≡◌, ℕ, zero, suc, ◌+◌, ◌-◌, ◌/◌, ◌%◌, ◌<◌, ◌≤◌, Bool, true, false, not, ltb, leb, List, [], ◌∷◌, ◌++◌, length, set, sym, refl, ap, ◌∙◌, add-zero, add-suc, add-one, arith, length-append, eq-eqb, ne_eqb, le-leb, leb-false, leb-true, if◌then◌else◌}
+-- One site: how many bytes it takes, and how it is stored.
+use Rattle.std.proofs.Common.{◌≡◌, ℕ, zero, suc, ◌+◌, ◌-◌, ◌/◌, ◌%◌, ◌<◌, ◌≤◌, Bool, true, false, ltb, List, [], ◌∷◌, ◌++◌, length, set, sym, ap, ◌∙◌, add-zero, add-suc, add-one, arith, length-append, if◌then◌else◌}
 use lib.Seq.{sets, length-sets}
 use lib.Bits.{bit_or}
-use borrow.Author.Tests.{lt-leb}
 use Rattle.grammar.specs.Number.{shortest, shortest_in}
 use Rattle.varint.proofs.Shortest.{more-group, last-group}
 use Rattle.pos.proofs.Shorts.{low-left, low-right, low-one, low-two, low-three}
 use Rattle.position_table.specs.declared.Site.{Site}
-use Rattle.pos.specs.declared.encoding.Measured.{Measured}
-use Rattle.pos.specs.declared.encoding.Place.{Place}
-use Rattle.pos.specs.Passes.{entry_of, falls_to, offended, grown, measured, writes, place_after, bytes_after}
+use Rattle.pos.specs.Passes.{entry_of}
 
 -- ── sizes ──
 
@@ -76,64 +73,6 @@ module _ (out : List ℕ) (at previous : ℕ) (site : Site) {step : ℕ} (is : s
     unfolding entry_of
     put_three e₃ o₃ =
         (omega (arith, after-step, e₁, e₂, e₃), rw (o₃, o₂, o₁, e₂, e₁, is, sets-append out at (shortest (site.address - previous)) (shortest site.line ++ shortest site.column), sets-append (sets out at (shortest (site.address - previous))) (at + length (shortest (site.address - previous))) (shortest site.line) (shortest site.column)))
-
--- ── the steps ──
-
-module _ (m : Measured) (site : Site) where
-  pub measured-dropped : site.line ≡ 0 → m ≡ measured m site
-  unfolding measured
-  measured-dropped e = rw (eq-eqb site.line 0 e)
-
-  module _ (line : site.line ≡ 0 → ⊥) where
-    pub measured-broken : m.broken ≡ true → m ≡ measured m site
-    unfolding measured
-    measured-broken e = rw (ne_eqb site.line 0 line, e)
-
-    pub measured-falls : m.broken ≡ false → falls_to m site.address ≡ true → offended m site.address ≡ measured m site
-    unfolding measured
-    measured-falls e f = rw (ne_eqb site.line 0 line, e, f)
-
-    pub measured-grown : m.broken ≡ false → falls_to m site.address ≡ false → grown m site ≡ measured m site
-    unfolding measured
-    measured-grown e f = rw (ne_eqb site.line 0 line, e, f)
-
-module _ (p : Place) (site : Site) where
-  pub writes-dropped : (room : ℕ) → site.line ≡ 0 → writes p site room ≡ false
-  unfolding writes
-  writes-dropped room e = rw (eq-eqb site.line 0 e)
-
-  module _ (line : site.line ≡ 0 → ⊥) where
-    pub writes-past : (room : ℕ) → room < p.at + length (entry_of p.previous site) → writes p site room ≡ false
-    unfolding writes
-    writes-past room h = rw (ne_eqb site.line 0 line, lt-leb _ _ h)
-
-    pub writes-fits : (room : ℕ) → p.at + length (entry_of p.previous site) ≤ room → writes p site room ≡ true
-    unfolding writes
-    writes-fits room h = rw (ne_eqb site.line 0 line, le-leb _ _ h)
-
-  -- the room that is left behind the place
-  pub fit-room : (room : ℕ) {b : Bool} → b ≡ leb (length (entry_of p.previous site)) (room - p.at) → b ≡ true → p.at ≤ room →
-      p.at + length (entry_of p.previous site) ≤ room
-  fit-room room is e h = let k : length (entry_of p.previous site) ≤ room - p.at = leb-true _ _ (sym is ∙ e) in omega arith
-
-  pub no_room : (room : ℕ) {b : Bool} → b ≡ leb (length (entry_of p.previous site)) (room - p.at) → b ≡ false → p.at ≤ room →
-      room < p.at + length (entry_of p.previous site)
-  no_room room is e h = let k : room - p.at < length (entry_of p.previous site) = leb-false _ _ (sym is ∙ e) in omega arith
-
-  pub unwritten : (out : List ℕ) → writes p site (length out) ≡ false → (p ≡ place_after p site (length out)) × (out ≡ bytes_after p site out)
-  unfolding place_after bytes_after
-  unwritten out e = (rw e, rw e)
-
-  pub written : (out : List ℕ) → writes p site (length out) ≡ true →
-      (record { at = p.at + length (entry_of p.previous site); previous = site.address } ≡ place_after p site (length out)) ×
-      (sets out p.at (entry_of p.previous site) ≡ bytes_after p site out)
-  unfolding place_after bytes_after
-  written out e = (rw e, rw e)
-
--- a test that is asked the other way round
-pub negated : (b : Bool) → not b ≡ (if b then false else true)
-negated true = refl
-negated false = refl
 
 -- ── a site of three single bytes ──
 

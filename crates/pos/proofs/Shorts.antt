@@ -6,10 +6,9 @@ use Rattle.grammar.specs.Outcome.{advanced, got, pure, ◌>>=◌}
 use Rattle.grammar.specs.Number.{number}
 use Rattle.grammar.proofs.Number.{number-narrow}
 use Rattle.varint.proofs.Groups.{holding-none, holding-last, holding-more}
-use Rattle.pos.specs.declared.skim.Short.{Short}
 use Rattle.position_table.specs.Table.{field}
 use Rattle.pos.specs.Steps.{placed}
-use Rattle.pos.specs.Skim.{none, no_site, NumberAt, Whole, SiteAt, Entry}
+use Rattle.pos.specs.Skim.{Whole, Entry}
 
 -- what two bytes or'ed together are below, both are
 pub low-left : (a b : ℕ) → a ≤ bit_or a b
@@ -52,13 +51,6 @@ module _ (s : List ℕ) (c : Cursor) where
       (holding-more (holding-more (holding-none s c (omega arith)) (omega arith) (omega arith) (rw (start-at (omega arith)) at more)) (omega arith) (omega arith) again)
       (omega arith) h last)
       (omega (arith, start-at (omega arith))) (omega arith)
-
--- what is not short says nothing
-pub long-number : (s : List ℕ) (c : Cursor) → NumberAt s c none
-long-number s c = record { inside = omega arith; reads = λ h. absurd (omega arith) }
-
-pub long-site : (s : List ℕ) (c : Cursor) → SiteAt s c no_site
-long-site s c = record { inside = omega arith; reads = λ h. absurd (omega arith) }
 
 -- three numbers, one behind the other, are an entry
 pub three-is : (s : List ℕ) (c : Cursor) (step line column a b d : ℕ) →
@@ -135,18 +127,3 @@ module _ (s : List ℕ) (c : Cursor) where
     where
       behind : (k : ℕ) → get_or s (c.at + 1 + k) 0 ≡ get_or s (c.at + (1 + k)) 0
       behind k = ap (λ (n : ℕ). get_or s n 0) (add_assoc c.at 1 k)
-
--- what a number or an entry that is read says of its answer
-pub number_is_lem : {s : List ℕ} {c : Cursor} {v : ℕ} (n : ℕ) → c.at + n ≤ length s → field s c ≡ got v (advanced c n) → NumberAt s c (record { value = v; size = n })
-number_is_lem n h e = record { inside = omega arith; reads = λ _. e }
-
-pub site-is : {s : List ℕ} {c : Cursor} {step line column : ℕ} (n : ℕ) → c.at + n ≤ length s → Whole s c step line column n →
-    SiteAt s c (record { step = step; line = line; column = column; size = n })
-site-is n h e = record { inside = omega arith; reads = λ _. e }
-
-pub placed-short : {s : List ℕ} {c c₂ : Cursor} {line column : Short} (to : ℕ) → NumberAt s c line → NumberAt s c₂ column → c₂ ≡ advanced c line.size →
-    (line.size ≡ 0 → ⊥) → (column.size ≡ 0 → ⊥) →
-    placed to s c ≡ got (record { address = to; line = line.value; column = column.value }) (advanced c₂ column.size)
-unfolding placed ◌>>=◌ pure
-placed-short {s} {c} {c₂} {line} {column} to n₁ n₂ is p₁ p₂ =
-    rw (n₁.reads (omega (arith, p₁)), ← is, n₂.reads (omega (arith, p₂)))

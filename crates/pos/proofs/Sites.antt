@@ -1,17 +1,15 @@
 -- Lists of sites: how three slices make one, and what the two passes come to over it.
-use Rattle.std.proofs.Common.{◌≡◌, ℕ, zero, suc, ◌+◌, ◌-◌, ◌*◌, ◌%◌, ◌^◌, ◌<◌, ◌≤◌, Bool, true, false, eqb, ltb, leb, List, [], ◌∷◌, ◌++◌, length, get_or, drop, sym, refl, ap, ◌∙◌, append_assoc, zero-le, mod-eq_of_lt, zero-add, add-one, arith, length-append, drop_of_length-le, ltb-false, le-ltb, ne_eqb, eqb-true, leb-true, if◌then◌else◌}
+use Rattle.std.proofs.Common.{◌≡◌, Ok, Err, ℕ, zero, suc, ◌+◌, ◌-◌, ◌*◌, ◌<◌, ◌≤◌, List, [], ◌∷◌, ◌++◌, length, get_or, drop, sym, refl, ap, ◌∙◌, append_assoc, zero-le, zero-add, add-one, arith, length-append, drop_of_length-le, drop-cons, le-ltb, lt-ltb, le-leb, eq-eqb, ne_eqb}
 use lib.Seq.{sets, length-sets}
-use borrow.Author.Tests.{eqb-false}
+use borrow.Author.Tests.{lt-leb}
 use Rattle.refusal.specs.declared.Refusal.{Refusal}
 use Rattle.grammar.specs.Number.{shortest}
 use Rattle.position_table.specs.declared.Site.{Site}
-use Rattle.position_table.specs.declared.Encoded.{Encoded}
 use Rattle.pos.specs.declared.encoding.Measured.{Measured}
-use Rattle.pos.specs.declared.encoding.Place.{Place}
 use Rattle.position_table.specs.Table.{Previous, none, earlier}
 use Rattle.position_table.specs.Encode.{sites_of, kept, Order, ascending, offence, order, entries_of, bytes_of, room_for, ordered, encoded, encoded_bytes}
-use Rattle.pos.specs.Passes.{entry_of, unmeasured, falls_to, offended, grown, measured, measured_all, judged_of, place_after, bytes_after, written_all, behind_count, with_count, written_from}
-use Rattle.pos.proofs.Puts.{entry-small, short-ten, sets-append, measured-dropped, measured-broken, measured-falls, measured-grown, writes-dropped, writes-fits, unwritten, written}
+use Rattle.pos.specs.Passes.{entry_of, in_order, all_of, measured_of}
+use Rattle.pos.proofs.Puts.{entry-small, sets-append}
 
 -- ── three slices ──
 
@@ -30,312 +28,234 @@ sites-length (x ∷ a) [] c n ha hl hc = omega arith
 sites-length (x ∷ a) (y ∷ l) [] n ha hl hc = omega arith
 sites-length (x ∷ a) (y ∷ l) (z ∷ c) n ha hl hc = omega (arith, sites-length a l c (n - 1) (omega arith) (omega arith) (omega arith))
 
-abbrev pub site-at : List ℕ → List ℕ → List ℕ → ℕ → Site
-site-at a l c i = record { address = get_or a i 0; line = get_or l i 0; column = get_or c i 0 }
-
-pub sites-drop : (a l c : List ℕ) (i : ℕ) → i < length (sites_of a l c) → drop i (sites_of a l c) ≡ site-at a l c i ∷ drop (suc i) (sites_of a l c)
+pub sites_at : (a l c : List ℕ) (i : ℕ) (d : Site) → i < length (sites_of a l c) →
+    get_or (sites_of a l c) i d ≡ record { address = get_or a i 0; line = get_or l i 0; column = get_or c i 0 }
 unfolding sites_of
-sites-drop [] l c i h = absurd (omega arith)
-sites-drop (x ∷ a) [] c i h = absurd (omega arith)
-sites-drop (x ∷ a) (y ∷ l) [] i h = absurd (omega arith)
-sites-drop (x ∷ a) (y ∷ l) (z ∷ c) zero h = refl
-sites-drop (x ∷ a) (y ∷ l) (z ∷ c) (suc i) h = sites-drop a l c i (omega arith)
+sites_at [] l c i d h = absurd (omega arith)
+sites_at (x ∷ a) [] c i d h = absurd (omega arith)
+sites_at (x ∷ a) (y ∷ l) [] i d h = absurd (omega arith)
+sites_at (x ∷ a) (y ∷ l) (z ∷ c) zero d h = refl
+sites_at (x ∷ a) (y ∷ l) (z ∷ c) (suc i) d h = sites_at a l c i d (omega arith)
 
--- ── a pass over a list, from the front: what is left to do makes the whole ──
+-- ── a list from a place on ──
 
-pub record Measuring (sites : List Site) (m : Measured) (i : ℕ) : Type 0 where
-  pub inside : i ≤ length sites
-  pub rest : measured_all unmeasured sites ≡ measured_all m (drop i sites)
+-- what is kept of it, by the site that stands there
+module _ (sites : List Site) (i : ℕ) (site : Site) (h : i < length sites) (is : site ≡ get_or sites i site) where
+  there : drop i sites ≡ site ∷ drop (i + 1) sites
+  there = rw (add-one i) (drop-cons sites i site h ∙ ap (λ (x : Site). x ∷ drop (suc i) sites) (sym is))
 
-pub measuring-none : (sites : List Site) → Measuring sites unmeasured 0
-measuring-none sites = record { inside = zero-le; rest = refl }
+  pub kept_dropped : site.line ≡ 0 → kept (drop i sites) ≡ kept (drop (i + 1) sites)
+  unfolding kept
+  kept_dropped e = rw (there, eq-eqb site.line 0 e)
 
-pub measuring-more : {sites : List Site} {m : Measured} {i : ℕ} {site : Site} → Measuring sites m i → i < length sites →
-    drop i sites ≡ site ∷ drop (suc i) sites → Measuring sites (measured m site) (i + 1)
-unfolding measured_all
-measuring-more {sites} {m} {i} g h e = record { inside = omega arith; rest = rw (add-one i) (g.rest ∙ ap (measured_all m) e) }
+  pub kept_more : (site.line ≡ 0 → ⊥) → kept (drop i sites) ≡ site ∷ kept (drop (i + 1) sites)
+  unfolding kept
+  kept_more line = rw (there, ne_eqb site.line 0 line)
 
-pub measuring-all : {sites : List Site} {m : Measured} {i : ℕ} → Measuring sites m i → length sites ≤ i → m ≡ measured_all unmeasured sites
-unfolding measured_all
-measuring-all {sites} {m} {i} g h = sym (g.rest ∙ ap (measured_all m) (drop_of_length-le sites h))
-
-pub record Writing (sites : List Site) (p₀ : Place) (out₀ : List ℕ) (p : Place) (out : List ℕ) (i : ℕ) : Type 0 where
-  pub inside : i ≤ length sites
-  pub same : length out ≡ length out₀
-  pub rest : written_all p₀ sites out₀ ≡ written_all p (drop i sites) out
-
-pub writing-none : (sites : List Site) (p : Place) (out : List ℕ) → Writing sites p out p out 0
-writing-none sites p out = record { inside = zero-le; same = refl; rest = refl }
-
-pub after_same : (p : Place) (site : Site) (out : List ℕ) → length (bytes_after p site out) ≡ length out
-unfolding bytes_after
-after_same p site out = go (Rattle.pos.specs.Passes.writes p site (length out))
-  where
-    go : (b : Bool) → length (if b then sets out p.at (entry_of p.previous site) else out) ≡ length out
-    go true = length-sets out p.at (entry_of p.previous site)
-    go false = refl
-
-pub writing_more : {sites : List Site} {p₀ : Place} {out₀ : List ℕ} {p : Place} {out : List ℕ} {i : ℕ} {site : Site} → Writing sites p₀ out₀ p out i → i < length sites →
-    drop i sites ≡ site ∷ drop (suc i) sites → Writing sites p₀ out₀ (place_after p site (length out)) (bytes_after p site out) (i + 1)
-unfolding written_all
-writing_more {p = p} {out} {i} {site} g h e =
-    record { inside = omega arith; same = after_same p site out ∙ g.same; rest = rw (add-one i) (g.rest ∙ ap (λ (l : List Site). written_all p l out) e) }
-
-pub writing-all : {sites : List Site} {p₀ : Place} {out₀ : List ℕ} {p : Place} {out : List ℕ} {i : ℕ} (k : ℕ) (out₁ : List ℕ) →
-    p₀ ≡ behind_count k → out₀ ≡ with_count k out₁ → Writing sites p₀ out₀ p out i → length sites ≤ i → out ≡ written_from k sites out₁
-unfolding written_all written_from
-writing-all {sites} {p = p} {out} k out₁ e o g h =
-    sym (rw (← e, ← o) (g.rest ∙ ap (λ (l : List Site). written_all p l out) (drop_of_length-le sites h)))
-
--- an index below the number of sites is one of each slice
-pub record Within (a l c : List ℕ) (i : ℕ) : Type 0 where
-  pub first : i < length a
-  pub second : i < length l
-  pub third : i < length c
-
-pub site_within : (a l c : List ℕ) {i n : ℕ} → n ≡ length (sites_of a l c) → i < n → Within a l c i
-site_within a l c e h =
-    let w = sites-within a l c in
-    record { first = omega (arith, w.0); second = omega (arith, w.1.0); third = omega (arith, w.1.1) }
-
--- the shortest of the three
-pub least_first : (a l c : List ℕ) → length a ≤ length l → length a ≤ length c → length a ≡ length (sites_of a l c)
-least_first a l c h k = omega (arith, (sites-within a l c).0, sites-length a l c (length a) (omega arith) h k)
-
-pub least-second : (a l c : List ℕ) → length l ≤ length a → length l ≤ length c → length l ≡ length (sites_of a l c)
-least-second a l c h k = omega (arith, (sites-within a l c).1.0, sites-length a l c (length l) h (omega arith) k)
-
-pub least-third : (a l c : List ℕ) → length c ≤ length a → length c ≤ length l → length c ≡ length (sites_of a l c)
-least-third a l c h k = omega (arith, (sites-within a l c).1.1, sites-length a l c (length c) h k (omega arith))
-
--- ── what measuring comes to ──
-
--- a list measures as an order, so many sites and so many bytes
-abbrev Sums : Measured → Order → ℕ → ℕ → Type 0
-Sums m ascending n size = (m.broken ≡ false) × ((m.kept ≡ n) × (m.size ≡ size))
-Sums m (offence address before) n size = (m.broken ≡ true) × ((m.offender ≡ address) × (m.previous ≡ before))
-
--- behind an offence nothing counts
-stays-broken : (m : Measured) (sites : List Site) → m.broken ≡ true → measured_all m sites ≡ m
-unfolding measured_all
-stays-broken m [] e = refl
-stays-broken m (site ∷ sites) e = ap (λ (n : Measured). measured_all n sites) (sym (go (eqb site.line 0) refl)) ∙ stays-broken m sites e
-  where
-    go : (b : Bool) → eqb site.line 0 ≡ b → m ≡ measured m site
-    go true t = measured-dropped m site (eqb-true _ _ t)
-    go false t = measured-broken m site (eqb-false _ _ t) e
-
--- the address before, as the order has it
-data Behind : Measured → Previous → Type 0 where
-  behind-none : {m : Measured} → m.kept ≡ 0 → m.previous ≡ 0 → Behind m none
-  behind-one : {m : Measured} → 0 < m.kept → Behind m (earlier m.previous)
+pub kept_none : (sites : List Site) (i : ℕ) → length sites ≤ i → kept (drop i sites) ≡ []
+unfolding kept
+kept_none sites i h = rw (drop_of_length-le sites h)
 
 entries-split : (previous : ℕ) (site : Site) (sites : List Site) → entries_of previous (site ∷ sites) ≡ entry_of previous site ++ entries_of site.address sites
 unfolding entries_of entry_of
 entries-split previous site sites = simp append_assoc
 
-entries-cons : (previous : ℕ) (site : Site) (sites : List Site) →
+pub entries-cons : (previous : ℕ) (site : Site) (sites : List Site) →
     length (entries_of previous (site ∷ sites)) ≡ length (entry_of previous site) + length (entries_of site.address sites)
 entries-cons previous site sites = rw (entries-split previous site sites) (length-append (entry_of previous site) (entries_of site.address sites))
-
--- sums of a list, for every state before it
-abbrev Law : List Site → Type 0
-Law sites =
-    (m : Measured) (p : Previous) → Behind m p → m.broken ≡ false → m.kept + length sites < 2 ^ 64 → m.size + 30 * length sites < 2 ^ 64 →
-    Sums (measured_all m sites) (order p (kept sites)) (m.kept + length (kept sites)) (m.size + length (entries_of m.previous (kept sites)))
-
-sums-as : (m : Measured) (o : Order) {n n' size size' : ℕ} → n ≡ n' → size ≡ size' → Sums m o n size → Sums m o n' size'
-sums-as m ascending e f s = (s.0, (s.1.0 ∙ e, s.1.1 ∙ f))
-sums-as m (offence address before) e f s = s
-
-module _ (site : Site) (sites : List Site) (law : Law sites) (m : Measured) (fine : m.broken ≡ false)
-    (few : m.kept + suc (length sites) < 2 ^ 64) (small : m.size + 30 * suc (length sites) < 2 ^ 64) (line : site.line ≡ 0 → ⊥) where
-  grown-sums : falls_to m site.address ≡ false →
-      Sums (measured_all (measured m site) sites) (order (earlier site.address) (kept sites)) (m.kept + suc (length (kept sites)))
-      (m.size + length (entries_of m.previous (site ∷ kept sites)))
-  grown-sums f =
-      let k : (m.kept + 1) % 2 ^ 64 ≡ m.kept + 1 = mod-eq_of_lt (omega arith) in
-      let z : (m.size + length (entry_of m.previous site)) % 2 ^ 64 ≡ m.size + length (entry_of m.previous site) = mod-eq_of_lt (omega (arith, entry-small m.previous site)) in
-      rw (← measured-grown m site line fine f)
-      (sums-as (measured_all (grown m site) sites) (order (earlier site.address) (kept sites)) (rw k (omega arith)) (rw z (omega (arith, entries-cons m.previous site (kept sites))))
-      (law (grown m site) (earlier site.address) (behind-one (rw k (omega arith))) refl (rw k (omega arith)) (rw z (omega (arith, entry-small m.previous site)))))
-
-  falls-none : m.kept ≡ 0 → m.previous ≡ 0 → falls_to m site.address ≡ false
-  falls-none z q = go (ltb m.previous site.address)
-    where
-      go : (b : Bool) → (if b then false else (if ltb site.address m.previous then true else (if eqb m.kept 0 then false else true))) ≡ false
-      go true = refl
-      go false = rw (q, le-ltb site.address 0 zero-le, z)
-
-  falls-back : 0 < m.kept → site.address ≤ m.previous → falls_to m site.address ≡ true
-  falls-back h le = rw (le-ltb m.previous site.address le, ne_eqb m.kept 0 (λ z. omega arith)) (go (ltb site.address m.previous))
-    where
-      go : (b : Bool) → (if b then true else true) ≡ true
-      go true = refl
-      go false = refl
-
-  kept-sums : {p : Previous} → Behind m p →
-      Sums (measured_all (measured m site) sites) (order p (site ∷ kept sites)) (m.kept + suc (length (kept sites)))
-      (m.size + length (entries_of m.previous (site ∷ kept sites)))
-  unfolding order
-  kept-sums (behind-none z q) = grown-sums (falls-none z q)
-  kept-sums (behind-one h) = go (ltb m.previous site.address) refl
-    where
-      go : (b : Bool) → ltb m.previous site.address ≡ b →
-          Sums (measured_all (measured m site) sites)
-          (if b then order (earlier site.address) (kept sites) else offence site.address m.previous) (m.kept + suc (length (kept sites)))
-          (m.size + length (entries_of m.previous (site ∷ kept sites)))
-      go true e = grown-sums (rw e)
-      go false e =
-          let f : falls_to m site.address ≡ true = falls-back h (ltb-false _ _ e) in
-          rw (← measured-falls m site line fine f, stays-broken (offended m site.address) sites refl) (refl, (refl, refl))
-
-measured-sums : (sites : List Site) → Law sites
-unfolding measured_all kept order entries_of
-measured-sums [] m none behind fine few small = (fine, (omega arith, omega arith))
-measured-sums [] m (earlier a) behind fine few small = (fine, (omega arith, omega arith))
-measured-sums (site ∷ sites) m p behind fine few small = go (eqb site.line 0) refl (measured-sums sites)
-  where
-    go : (b : Bool) → eqb site.line 0 ≡ b → Law sites →
-        Sums (measured_all (measured m site) sites) (order p (if b then kept sites else site ∷ kept sites)) (m.kept + length (if b then kept sites else site ∷ kept sites))
-        (m.size + length (entries_of m.previous (if b then kept sites else site ∷ kept sites)))
-    go true e law = rw (← measured-dropped m site (eqb-true _ _ e)) (law m p behind fine (omega arith) (omega arith))
-    go false e law = kept-sums site sites law m fine few small (eqb-false _ _ e) behind
-
--- ── what is answered ──
-
-kept-shorter : (sites : List Site) → length (kept sites) ≤ length sites
-unfolding kept
-kept-shorter [] = zero-le
-kept-shorter (site ∷ sites) = go (eqb site.line 0) (kept-shorter sites)
-  where
-    go : (b : Bool) → length (kept sites) ≤ length sites → length (if b then kept sites else site ∷ kept sites) ≤ suc (length sites)
-    go true h = omega arith
-    go false h = omega arith
 
 entries_none : (previous : ℕ) → entries_of previous [] ≡ []
 unfolding entries_of
 entries_none previous = refl
 
-entries-small : (previous : ℕ) (sites : List Site) → length (entries_of previous sites) ≤ 30 * length sites
-entries-small previous [] = rw (entries_none previous) zero-le
-entries-small previous (site ∷ sites) =
-    omega (arith, entries-cons previous site sites, entry-small previous site, entries-small site.address sites)
+-- ── the first pass ──
 
-module _ (sites : List Site) where
-  abbrev all : Measured
-  all = measured_all unmeasured sites
+-- the address before: none where no site is kept yet, and steps then count from 0
+pub data Behind : Previous → ℕ → ℕ → Type 0 where
+  behind_none : Behind none 0 0
+  behind_one : (n address : ℕ) → Behind (earlier address) (suc n) address
 
-  abbrev size_of : ℕ
-  size_of = length (entries_of 0 (kept sites))
+-- of the sites in front so many are kept, and what is left to do makes the whole
+pub record Measuring (sites : List Site) (i n size previous : ℕ) : Type 0 where
+  pub few : n ≤ i
+  pub small : size ≤ 30 * i
+  pub before : Previous
+  pub behind : Behind before n previous
+  pub order : order none (kept sites) ≡ order before (kept (drop i sites))
+  pub count : length (kept sites) ≡ n + length (kept (drop i sites))
+  pub bytes : length (entries_of 0 (kept sites)) ≡ size + length (entries_of previous (kept (drop i sites)))
 
-  all-sums : length sites ≤ 262144 → Sums all (order none (kept sites)) (length (kept sites)) size_of
-  all-sums h =
-      sums-as all (order none (kept sites)) (omega arith) (omega arith)
-      (measured-sums sites unmeasured none (behind-none refl refl) refl (omega arith) (omega arith))
+pub measuring_none : (sites : List Site) → Measuring sites 0 0 0 0
+measuring_none sites =
+    record { few = zero-le; small = zero-le; before = none; behind = behind_none; order = refl; count = sym (zero-add _); bytes = sym (zero-add _) }
 
-  -- the bytes needed do not wrap
-  needed-is : length sites ≤ 262144 → (length (shortest (length (kept sites))) + size_of) % 2 ^ 64 ≡ length (bytes_of (kept sites))
-  unfolding bytes_of
-  needed-is h =
-      mod-eq_of_lt (omega (arith, short-ten (length (kept sites)), entries-small 0 (kept sites), kept-shorter sites)) ∙
-      sym (length-append (shortest (length (kept sites))) (entries_of 0 (kept sites)))
+ordered_more : {p : Previous} {n previous : ℕ} → Behind p n previous → (site : Site) (sites : List Site) → previous < site.address →
+    order p (site ∷ sites) ≡ order (earlier site.address) sites
+unfolding order
+ordered_more behind_none site sites h = refl
+ordered_more (behind_one n address) site sites h = rw (lt-ltb address site.address h)
 
-  module _ (room : ℕ) where
-    answered : length sites ≤ 262144 → (o : Order) → Sums all o (length (kept sites)) size_of →
-        (if all.broken then Encoded.Refused (Refusal.NotAscending all.offender all.previous)
-        else room_for ((length (shortest all.kept) + all.size) % 2 ^ 64) room) ≡
-        ordered o (room_for (length (bytes_of (kept sites))) room)
-    answered h ascending s = rw (s.0, s.1.0, s.1.1, needed-is h)
-    answered h (offence address before) s = rw (s.0, s.1.0, s.1.1)
+ordered_first : {p : Previous} {n previous : ℕ} → Behind p n previous → (site : Site) (sites : List Site) → n ≡ 0 →
+    order p (site ∷ sites) ≡ order (earlier site.address) sites
+unfolding order
+ordered_first behind_none site sites z = refl
+ordered_first (behind_one n address) site sites z = absurd (omega arith)
 
-    pub judged-is : judged_of (length sites) all room ≡ encoded sites room
-    unfolding judged_of encoded
-    judged-is = go (ltb 262144 (length sites)) refl
+ordered_falls : {p : Previous} {n previous : ℕ} → Behind p n previous → (site : Site) (sites : List Site) → (n ≡ 0 → ⊥) → site.address ≤ previous →
+    order p (site ∷ sites) ≡ offence site.address previous
+unfolding order
+ordered_falls behind_none site sites some h = absurd (some refl)
+ordered_falls (behind_one n address) site sites some h = rw (le-ltb address site.address h)
+
+module _ {sites : List Site} {i n size previous : ℕ} (g : Measuring sites i n size previous) where
+  module _ (site : Site) (h : i < length sites) (is : site ≡ get_or sites i site) where
+    pub measuring_dropped : site.line ≡ 0 → Measuring sites (i + 1) n size previous
+    measuring_dropped e =
+        let same = kept_dropped sites i site h is e in
+        record {
+          few = omega (arith, g.few);
+          small = omega (arith, g.small);
+          before = g.before;
+          behind = g.behind;
+          order = rw (← same) g.order;
+          count = rw (← same) g.count;
+          bytes = rw (← same) g.bytes;
+        }
+
+    module _ (line : site.line ≡ 0 → ⊥) where
+      more : kept (drop i sites) ≡ site ∷ kept (drop (i + 1) sites)
+      more = kept_more sites i site h is line
+
+      grown : order g.before (site ∷ kept (drop (i + 1) sites)) ≡ order (earlier site.address) (kept (drop (i + 1) sites)) →
+          Measuring sites (i + 1) (n + 1) (size + length (entry_of previous site)) site.address
+      grown o =
+          record {
+            few = omega (arith, g.few);
+            small = omega (arith, g.small, entry-small previous site);
+            before = earlier site.address;
+            behind = rw (add-one n) (behind_one n site.address);
+            order = (rw more at g.order) ∙ o;
+            count = let k = rw more at g.count in omega (arith, k);
+            bytes = let k = rw more at g.bytes in omega (arith, k, entries-cons previous site (kept (drop (i + 1) sites)));
+          }
+
+      pub measuring_first : n ≡ 0 → Measuring sites (i + 1) (n + 1) (size + length (entry_of previous site)) site.address
+      measuring_first z = grown (ordered_first g.behind site (kept (drop (i + 1) sites)) z)
+
+      pub measuring_more : previous < site.address → Measuring sites (i + 1) (n + 1) (size + length (entry_of previous site)) site.address
+      measuring_more up = grown (ordered_more g.behind site (kept (drop (i + 1) sites)) up)
+
+      pub measuring_falls : (n ≡ 0 → ⊥) → site.address ≤ previous → Err (Refusal.NotAscending site.address previous) ≡ measured_of sites
+      unfolding measured_of
+      measuring_falls some down = rw (g.order, more, ordered_falls g.behind site (kept (drop (i + 1) sites)) some down)
+
+  order_ended : (p : Previous) → order p [] ≡ ascending
+  unfolding order
+  order_ended none = refl
+  order_ended (earlier address) = refl
+
+  pub measuring_all : length sites ≤ i → Ok (record { kept = n; size = length (shortest n) + size }) ≡ measured_of sites
+  unfolding measured_of bytes_of
+  measuring_all h =
+      let none_left = kept_none sites i h in
+      let count : length (kept sites) ≡ n = (rw none_left at g.count) ∙ omega arith in
+      let bytes : length (entries_of 0 (kept sites)) ≡ size = (rw (none_left, entries_none previous) at g.bytes) ∙ omega arith in
+      rw (g.order, none_left, order_ended g.before, length-append (shortest (length (kept sites))) (entries_of 0 (kept sites)), count, bytes)
+
+-- ── the second pass ──
+
+-- the count is the front of the bytes
+pub count_fits : (sites : List Site) {n : ℕ} (room : ℕ) → n ≡ length (kept sites) → length (bytes_of (kept sites)) ≤ room → length (shortest n) ≤ room
+unfolding bytes_of
+count_fits sites room e h = rw e (omega (arith, h, length-append (shortest (length (kept sites))) (entries_of 0 (kept sites))))
+
+pub record Writing (sites : List Site) (out₀ : List ℕ) (i at previous : ℕ) (out : List ℕ) : Type 0 where
+  pub same : length out ≡ length out₀
+  pub room : at + length (entries_of previous (kept (drop i sites))) ≤ length out
+  pub rest : sets out at (entries_of previous (kept (drop i sites))) ≡ sets out₀ 0 (bytes_of (kept sites))
+
+pub writing_none : (sites : List Site) (out₀ : List ℕ) {n at : ℕ} {out : List ℕ} → n ≡ length (kept sites) → length (bytes_of (kept sites)) ≤ length out₀ →
+    at ≡ 0 + length (shortest n) → out ≡ sets out₀ 0 (shortest n) → Writing sites out₀ 0 at 0 out
+unfolding bytes_of
+writing_none sites out₀ {n} count room e o =
+    record {
+      same = rw o (length-sets out₀ 0 (shortest n));
+      room = rw (o, e, count) (omega (arith, room, length-sets out₀ 0 (shortest (length (kept sites))), length-append (shortest (length (kept sites))) (entries_of 0 (kept sites))));
+      rest = rw (o, e, count, sets-append out₀ 0 (shortest (length (kept sites))) (entries_of 0 (kept sites)));
+    }
+
+module _ {sites : List Site} {out₀ : List ℕ} {i at previous : ℕ} {out : List ℕ} (g : Writing sites out₀ i at previous out) where
+  module _ (site : Site) (h : i < length sites) (is : site ≡ get_or sites i site) where
+    pub writing_dropped : site.line ≡ 0 → Writing sites out₀ (i + 1) at previous out
+    writing_dropped e =
+        let same = kept_dropped sites i site h is e in
+        record { same = g.same; room = rw (← same) g.room; rest = rw (← same) g.rest }
+
+    module _ (line : site.line ≡ 0 → ⊥) where
+      left_is : kept (drop i sites) ≡ site ∷ kept (drop (i + 1) sites)
+      left_is = kept_more sites i site h is line
+
+      pub writing_room : at + length (entry_of previous site) ≤ length out
+      writing_room =
+          let k = rw left_is at g.room in
+          omega (arith, k, entries-cons previous site (kept (drop (i + 1) sites)))
+
+      pub writing_more : {next : ℕ} {out₁ : List ℕ} → next ≡ at + length (entry_of previous site) → out₁ ≡ sets out at (entry_of previous site) →
+          Writing sites out₀ (i + 1) next site.address out₁
+      writing_more e o =
+          let size = length-sets out at (entry_of previous site) in
+          let k = rw left_is at g.room in
+          record {
+            same = rw o (size ∙ g.same);
+            room = rw (o, e, size) (omega (arith, k, entries-cons previous site (kept (drop (i + 1) sites))));
+            rest = rw (o, e, ← sets-append out at (entry_of previous site) (entries_of site.address (kept (drop (i + 1) sites))), ← entries-split previous site (kept (drop (i + 1) sites)), ← left_is) g.rest;
+          }
+
+  pub writing_all : length sites ≤ i → out ≡ sets out₀ 0 (bytes_of (kept sites))
+  writing_all h = rw (kept_none sites i h, entries_none previous) at g.rest
+
+-- ── what is answered ──
+
+-- the answer of the first pass, whatever the room
+module _ (sites : List Site) (few : length sites ≤ 262144) where
+  module _ {r : Refusal} (e : measured_of sites ≡ Err r) (room : ℕ) where
+    pub encoded_refused : Err r ≡ encoded sites room
+    unfolding measured_of encoded
+    encoded_refused = rw (le-ltb 262144 (length sites) few) (go (order none (kept sites)) e)
       where
-        go : (b : Bool) → ltb 262144 (length sites) ≡ b →
-            (if b then Encoded.Refused (Refusal.TooLong (length sites))
-            else (if all.broken then Encoded.Refused (Refusal.NotAscending all.offender all.previous)
-            else room_for ((length (shortest all.kept) + all.size) % 2 ^ 64) room)) ≡
-            (if b then Encoded.Refused (Refusal.TooLong (length sites)) else ordered (order none (kept sites)) (room_for (length (bytes_of (kept sites))) room))
-        go true e = refl
-        go false e = let h : length sites ≤ 262144 = ltb-false _ _ e in answered h (order none (kept sites)) (all-sums h)
+        go : (o : Order) → in_order o (all_of sites) ≡ Err r → Err r ≡ ordered o (room_for (length (bytes_of (kept sites))) room)
+        go ascending is = cc
+        go (offence address before) is = cc
 
--- what an answer that it is done says
-pub record Ready (sites : List Site) (room : ℕ) : Type 0 where
-  pub count : (measured_all unmeasured sites).kept ≡ length (kept sites)
-  pub fits : length (bytes_of (kept sites)) ≤ room
+  module _ {m : Measured} (e : measured_of sites ≡ Ok m) where
+    found : (o : Order) → in_order o (all_of sites) ≡ Ok m → (o ≡ ascending) × (all_of sites ≡ m)
+    found ascending is = (refl, cc)
+    found (offence address before) is = cc
 
-done-ne-refused : {size : ℕ} {r : Refusal} → Encoded.Done size ≡ Encoded.Refused r → ⊥
-done-ne-refused e = let z : ◌≡◌ {A = ℕ} 0 1 = cc in omega arith
+    pub measured_is : (order none (kept sites) ≡ ascending) × (all_of sites ≡ m)
+    unfolding measured_of
+    measured_is = found (order none (kept sites)) e
 
-pub ready : (sites : List Site) (room size : ℕ) → judged_of (length sites) (measured_all unmeasured sites) room ≡ Encoded.Done size → Ready sites room
-unfolding judged_of
-ready sites room size e = long (ltb 262144 (length sites)) refl e
-  where
-    fit : length sites ≤ 262144 → (b : Bool) → leb (length (bytes_of (kept sites))) room ≡ b → (all sites).kept ≡ length (kept sites) →
-        (if b then Encoded.Done (length (bytes_of (kept sites))) else Encoded.Refused (Refusal.NoRoom (length (bytes_of (kept sites))))) ≡ Encoded.Done size → Ready sites room
-    fit h true t k e = record { count = k; fits = leb-true _ _ t }
-    fit h false t k e = absurd (done-ne-refused (sym e))
+    pub encoded_no_room : (room : ℕ) → room < m.size → Err (Refusal.NoRoom m.size) ≡ encoded sites room
+    unfolding encoded
+    encoded_no_room room h =
+        rw (le-ltb 262144 (length sites) few, measured_is.0, ap (λ (n : Measured). n.size) measured_is.1, lt-leb m.size room h)
 
-    order_is : length sites ≤ 262144 → (o : Order) → Sums (all sites) o (length (kept sites)) (size_of sites) →
-        ordered o (room_for (length (bytes_of (kept sites))) room) ≡ Encoded.Done size → Ready sites room
-    order_is h ascending s e = fit h (leb (length (bytes_of (kept sites))) room) refl s.1.0 e
-    order_is h (offence address before) s e = absurd (done-ne-refused (sym e))
+    pub encoded_done : (room : ℕ) → m.size ≤ room → Ok m.size ≡ encoded sites room
+    unfolding encoded
+    encoded_done room h =
+        rw (le-ltb 262144 (length sites) few, measured_is.0, ap (λ (n : Measured). n.size) measured_is.1, le-leb m.size room h)
 
-    long : (b : Bool) → ltb 262144 (length sites) ≡ b →
-        (if b then Encoded.Refused (Refusal.TooLong (length sites))
-        else (if (all sites).broken then Encoded.Refused (Refusal.NotAscending (all sites).offender (all sites).previous)
-        else room_for ((length (shortest (all sites).kept) + (all sites).size) % 2 ^ 64) room)) ≡ Encoded.Done size → Ready sites room
-    long true t e = absurd (done-ne-refused (sym e))
-    long false t e =
-        let h : length sites ≤ 262144 = ltb-false _ _ t in
-        order_is h (order none (kept sites)) (all-sums sites h) (sym (answered sites room h (order none (kept sites)) (all-sums sites h)) ∙ e)
+pub encoded_long : (sites : List Site) (room : ℕ) → 262144 < length sites → Err (Refusal.TooLong (length sites)) ≡ encoded sites room
+unfolding encoded
+encoded_long sites room h = rw (lt-ltb 262144 (length sites) h)
 
--- ── what is written ──
-
-pub all-written : (sites : List Site) (p : Place) (out : List ℕ) → p.at + length (entries_of p.previous (kept sites)) ≤ length out →
-    written_all p sites out ≡ sets out p.at (entries_of p.previous (kept sites))
-unfolding written_all kept
-all-written [] p out h = rw (entries_none p.previous)
-all-written (site ∷ sites) p out h = go (eqb site.line 0) refl h (all-written sites)
-  where
-    go : (b : Bool) → eqb site.line 0 ≡ b → p.at + length (entries_of p.previous (if b then kept sites else site ∷ kept sites)) ≤ length out →
-        ((p : Place) (out : List ℕ) → p.at + length (entries_of p.previous (kept sites)) ≤ length out →
-        written_all p sites out ≡ sets out p.at (entries_of p.previous (kept sites))) →
-        written_all (place_after p site (length out)) sites (bytes_after p site out) ≡ sets out p.at (entries_of p.previous (if b then kept sites else site ∷ kept sites))
-    go true e h law =
-        let u = unwritten p site out (writes-dropped p site (length out) (eqb-true _ _ e)) in
-        rw (← u.0, ← u.1) (law p out h)
-    go false e h law =
-        let fits : p.at + length (entry_of p.previous site) ≤ length out = omega (arith, entries-cons p.previous site (kept sites)) in
-        let w = written p site out (writes-fits p site (eqb-false _ _ e) (length out) fits) in
-        rw (← w.0, ← w.1, entries-split p.previous site (kept sites), sets-append out p.at (entry_of p.previous site) (entries_of site.address (kept sites)))
-        (law (record { at = p.at + length (entry_of p.previous site); previous = site.address }) (sets out p.at (entry_of p.previous site))
-        (omega (arith, length-sets out p.at (entry_of p.previous site), entries-cons p.previous site (kept sites))))
-
--- both answers, and what they leave
+-- and what the bytes then are
 module _ (sites : List Site) (out : List ℕ) where
-  pub left_alone : (r : Refusal) → judged_of (length sites) (measured_all unmeasured sites) (length out) ≡ Encoded.Refused r → out ≡ encoded_bytes sites out
+  pub bytes_refused : {r : Refusal} → Err r ≡ encoded sites (length out) → out ≡ encoded_bytes sites out
   unfolding encoded_bytes
-  left_alone r e = rw (← judged-is sites (length out), e)
+  bytes_refused e = rw (← e)
 
-  module _ (size : ℕ) (e : judged_of (length sites) (measured_all unmeasured sites) (length out) ≡ Encoded.Done size) where
-    pub count_fits : length (shortest (measured_all unmeasured sites).kept) ≤ length out
-    unfolding bytes_of
-    count_fits =
-        let r = ready sites (length out) size e in
-        rw r.count (omega (arith, r.fits, length-append (shortest (length (kept sites))) (entries_of 0 (kept sites))))
-
-    pub all-bytes : written_from (measured_all unmeasured sites).kept sites out ≡ encoded_bytes sites out
-    unfolding encoded_bytes written_from bytes_of
-    all-bytes =
-        let r = ready sites (length out) size e in
-        rw (r.count, ← judged-is sites (length out), e, sets-append out 0 (shortest (length (kept sites))) (entries_of 0 (kept sites)), zero-add (length (shortest (length (kept sites)))))
-        (all-written sites (behind_count (length (kept sites))) (with_count (length (kept sites)) out)
-        (omega (arith, r.fits, length-sets out 0 (shortest (length (kept sites))), length-append (shortest (length (kept sites))) (entries_of 0 (kept sites)))))
-
--- the answer of what the passes found is the answer of the list
-pub answer-is : (sites : List Site) (room : ℕ) {n : ℕ} {m : Measured} {r x : Encoded} → n ≡ length sites → m ≡ measured_all unmeasured sites →
-    r ≡ judged_of n m room → r ≡ x → judged_of (length sites) (measured_all unmeasured sites) room ≡ x
-answer-is sites room e f j is = rw (← e, ← f) (sym j ∙ is)
+  pub bytes_done : {n : ℕ} → Ok n ≡ encoded sites (length out) → sets out 0 (bytes_of (kept sites)) ≡ encoded_bytes sites out
+  unfolding encoded_bytes
+  bytes_done e = rw (← e)

@@ -1,6 +1,8 @@
 -- One entry more: how the definitions' lists of entries go on behind an entry, for a check and for resolving.
-use Rattle.std.proofs.Common.{◌≡◌, ℕ, suc, ◌+◌, ◌-◌, ◌^◌, ◌<◌, ◌≤◌, Bool, true, false, eqb, ltb, List, ◌∷◌, length, get_or, sym, refl, ap, ◌∙◌, zero-le, zero-add, arith, ltb-false, ltb-true, le-ltb, lt-ltb, eq-eqb, if◌then◌else◌}
+use Rattle.std.proofs.Common.{◌≡◌, Result, Ok, Err, Some, None, ℕ, suc, ◌+◌, ◌-◌, ◌^◌, ◌<◌, ◌≤◌, Bool, true, false, eqb, ltb, leb, List, ◌∷◌, length, get_or, sym, refl, ap, ◌∙◌, zero-le, zero-add, arith, le-ltb, lt-ltb, le-leb, eq-eqb, if◌then◌else◌}
 use lib.Bits.{bit_or}
+use Rattle.std.specs.Result.{result_ok}
+use Rattle.grammar.specs.Read.{answer}
 use Rattle.refusal.specs.declared.Refusal.{Refusal}
 use Rattle.refusal.specs.declared.PositionsFault.{PositionsFault}
 use Rattle.grammar.specs.declared.Cursor.{Cursor}
@@ -10,15 +12,20 @@ use Rattle.grammar.specs.Number.{number}
 use Rattle.grammar.proofs.Number.{number-below}
 use Rattle.grammar.proofs.Outcome.{got-ne-refused}
 use Rattle.position_table.specs.declared.Site.{Site}
-use Rattle.position_table.specs.declared.Checked.{Checked}
-use Rattle.position_table.specs.declared.Resolved.{Resolved}
-use Rattle.pos.specs.declared.reading.Reached.{Reached}
-use Rattle.position_table.specs.Table.{in_table, field, Previous, none, earlier, reached, entries, table, whole, as_checked, checked, walked, site_for, seek, or_nothing, resolved}
-use Rattle.pos.specs.Steps.{reach_of, reach_is, placed, entry_at, ended_at, ends_as}
-use Rattle.pos.specs.declared.skim.ShortSite.{ShortSite}
+use Rattle.position_table.specs.Table.{in_table, field, Previous, none, earlier, reached, entries, table, whole, as_checked, checked, walked, site_for, seek, or_none, resolved}
+use Rattle.pos.specs.Steps.{placed, entry_at, ended_at, ends_as}
 use Rattle.pos.specs.declared.skim.Walk.{Walk}
-use Rattle.pos.proofs.Shorts.{number_is_lem, field-one, plain-three, low-one}
-use Rattle.pos.specs.Skim.{Whole, SiteAt, Entry, Before, first, later, walk_at, begins, SingleAt, CheckingAt, Checking, sought, Runs}
+use Rattle.pos.proofs.Shorts.{field-one, plain-three, low-one}
+use Rattle.pos.specs.Skim.{Whole, Entry, Before, first, later, walk_at, begins, CheckingAt, Checking, sought, Runs}
+
+-- what a read says, told as an option
+pub read_some : {A : Type 0} (r : Result (A × Cursor) Refusal) {v : A} {next : Cursor} → Some (v, next) ≡ result_ok r → answer r ≡ got v next
+read_some (Ok read) is = cc
+read_some (Err r) is = cc
+
+pub read_none : {A : Type 0} (r : Result (A × Cursor) Refusal) → None ≡ result_ok r → (e : Refusal) × (answer r ≡ refused e)
+read_none (Ok read) is = cc
+read_none (Err r) is = (r, refl)
 
 -- a field fits 32 bits
 pub field_below : (s : List ℕ) (c : Cursor) (v : ℕ) (next : Cursor) → field s c ≡ got v next → v < 2 ^ 32
@@ -28,25 +35,6 @@ field_below s c v next e = go (number 32 s c) refl e
     go : (o : Outcome ℕ) → number 32 s c ≡ o → in_table o ≡ got v next → v < 2 ^ 32
     go (got u last) is e = number-below 32 s c v next (is ∙ e)
     go (refused r) is e = absurd (got-ne-refused (sym e))
-
--- the definition's address is the one that the step reaches
-reach-is : {p : Previous} {least address : ℕ} → Before p least address → (step : ℕ) → step < 2 ^ 32 → (s : List ℕ) (c : Cursor) →
-    reached p step s c ≡ reach_is (reach_of least address step) s c
-unfolding reached check pure refuse ◌>>=◌
-reach-is first step h s c = rw (le-ltb step 0 zero-le, zero-add step, lt-ltb step (2 ^ 32) h)
-reach-is (later address) step h s c = go (ltb 0 step) refl
-  where
-    sum : (b : Bool) → after (check b (Refusal.Positions PositionsFault.Overflow) s c) (λ _ last. got (address + step) last) ≡
-        reach_is (if b then Reached.At (address + step) else Reached.Refused (Refusal.Positions PositionsFault.Overflow)) s c
-    sum true = refl
-    sum false = refl
-
-    go : (b : Bool) → ltb 0 step ≡ b →
-        after (check b (Refusal.Positions (PositionsFault.OutOfOrder address)) s c)
-        (λ _ next. after (check (ltb (address + step) (2 ^ 32)) (Refusal.Positions PositionsFault.Overflow) s next) (λ _ last. got (address + step) last)) ≡
-        reach_is (reach_of 1 address step) s c
-    go true e = let k : 0 < step = ltb-true 0 step e in rw (le-ltb step 1 (omega arith)) (sum (ltb (address + step) (2 ^ 32)))
-    go false e = let k : step ≤ 0 = ltb-false 0 step e in rw (lt-ltb step 1 (omega arith))
 
 abbrev site-of : ℕ → ℕ → ℕ → Site
 site-of to line column = record { address = to; line = line; column = column }
@@ -60,13 +48,13 @@ listing s n to c =
     after (field s c) (λ line c₃. after (field s c₃) (λ column next. after (entries n (earlier to) s next) (λ others last. got (site-of to line column ∷ others) last)))
 
 -- what a check goes on with behind an entry
-abbrev onward : List ℕ → ℕ → Outcome Site → Checked
+abbrev onward : List ℕ → ℕ → Outcome Site → Result Unit Refusal
 onward s n (got site next) = ends_as s (entries n (earlier site.address) s next)
-onward s n (refused r) = Checked.Refused r
+onward s n (refused r) = Err r
 
 entries-more : {p : Previous} {least address : ℕ} → Before p least address → (n : ℕ) (s : List ℕ) (c : Cursor) →
     ends_as s (entries (suc n) p s c) ≡ onward s n (entry_at least address s c)
-unfolding entries entry_at placed ◌>>=◌ pure
+unfolding entries reached entry_at placed check ◌>>=◌ pure refuse
 entries-more {p} {least} {address} before n s c = step-got (field s c) refl
   where
     others-got : (site : Site) (o : Outcome (List Site)) → ends_as s (after o (λ others last. got (site ∷ others) last)) ≡ ends_as s o
@@ -85,40 +73,47 @@ entries-more {p} {least} {address} before n s c = step-got (field s c) refl
     line-got to (got line c₃) = column-got to line (field s c₃)
     line-got to (refused r) = refl
 
-    to-got : (o : Outcome ℕ) →
-        ends_as s (after o (λ to c₂. listing s n to c₂)) ≡
-        onward s n (after o (λ to c₂. placing s to c₂))
-    to-got (got to c₂) = line-got to (field s c₂)
-    to-got (refused r) = refl
+    -- a step is none too small and the sum fits, or not
+    reached-got : {p : Previous} {least address : ℕ} → Before p least address → (step : ℕ) → step < 2 ^ 32 → (c₁ : Cursor) →
+        ends_as s (after (reached p step s c₁) (λ to c₂. listing s n to c₂)) ≡
+        onward s n (after (check (leb least step) (Refusal.Positions (PositionsFault.OutOfOrder address)) s c₁)
+        (λ _ c₂. after (check (ltb (address + step) (2 ^ 32)) (Refusal.Positions PositionsFault.Overflow) s c₂) (λ _ c₃. placing s (address + step) c₃)))
+    reached-got first step h c₁ = rw (le-leb 0 step zero-le, zero-add step, lt-ltb step (2 ^ 32) h) (line-got step (field s c₁))
+    reached-got (later address) step h c₁ = go (ltb 0 step) (ltb (address + step) (2 ^ 32))
+      where
+        go : (b t : Bool) →
+            ends_as s (after (after (check b (Refusal.Positions (PositionsFault.OutOfOrder address)) s c₁)
+            (λ _ next. after (check t (Refusal.Positions PositionsFault.Overflow) s next) (λ _ last. got (address + step) last))) (λ to c₂. listing s n to c₂)) ≡
+            onward s n (after (check b (Refusal.Positions (PositionsFault.OutOfOrder address)) s c₁)
+            (λ _ c₂. after (check t (Refusal.Positions PositionsFault.Overflow) s c₂) (λ _ c₃. placing s (address + step) c₃)))
+        go true true = line-got (address + step) (field s c₁)
+        go true false = refl
+        go false t = refl
 
     step-got : (o : Outcome ℕ) → field s c ≡ o →
         ends_as s (after o (λ step c₁. after (reached p step s c₁) (λ to c₂. listing s n to c₂))) ≡
-        onward s n (after o (λ step c₁. after (reach_is (reach_of least address step) s c₁) (λ to c₂. placing s to c₂)))
-    step-got (got step c₁) e = rw (reach-is before step (field_below s c step c₁ e) s c₁) (to-got (reach_is (reach_of least address step) s c₁))
+        onward s n (after o (λ step c₁. after (check (leb least step) (Refusal.Positions (PositionsFault.OutOfOrder address)) s c₁)
+        (λ _ c₂. after (check (ltb (address + step) (2 ^ 32)) (Refusal.Positions PositionsFault.Overflow) s c₂) (λ _ c₃. placing s (address + step) c₃))))
+    step-got (got step c₁) e = reached-got before step (field_below s c step c₁ e) c₁
     step-got (refused r) e = refl
 
 -- an entry as resolving reads it passes any step
 pub walked-is : (address : ℕ) (s : List ℕ) (c : Cursor) → walked address s c ≡ entry_at 0 address s c
 unfolding walked entry_at placed check pure refuse ◌>>=◌
-walked-is address s c = step-got (field s c)
+walked-is address s c = go (field s c)
   where
-    sum-got : (to : ℕ) (c₁ : Cursor) (b : Bool) →
-        after (check b (Refusal.Positions PositionsFault.Overflow) s c₁) (λ _ c₂. placing s to c₂) ≡
-        after (reach_is (if b then Reached.At to else Reached.Refused (Refusal.Positions PositionsFault.Overflow)) s c₁) (placing s)
-    sum-got to c₁ true = refl
-    sum-got to c₁ false = refl
-
-    step-got : (o : Outcome ℕ) →
+    go : (o : Outcome ℕ) →
         after o (λ step c₁. after (check (ltb (address + step) (2 ^ 32)) (Refusal.Positions PositionsFault.Overflow) s c₁) (λ _ c₂. placing s (address + step) c₂)) ≡
-        after o (λ step c₁. after (reach_is (reach_of 0 address step) s c₁) (placing s))
-    step-got (got step c₁) = rw (le-ltb step 0 zero-le) (sum-got (address + step) c₁ (ltb (address + step) (2 ^ 32)))
-    step-got (refused r) = refl
+        after o (λ step c₁. after (check (leb 0 step) (Refusal.Positions (PositionsFault.OutOfOrder address)) s c₁)
+        (λ _ c₂. after (check (ltb (address + step) (2 ^ 32)) (Refusal.Positions PositionsFault.Overflow) s c₂) (λ _ c₃. placing s (address + step) c₃)))
+    go (got step c₁) = rw (le-leb 0 step zero-le) refl
+    go (refused r) = refl
 
 -- a whole entry, read at any least step up to its own
 pub entry_whole : {s : List ℕ} {c : Cursor} {step line column size : ℕ} → Whole s c step line column size → (l address : ℕ) → l ≤ step → address + step < 2 ^ 32 →
     entry_at l address s c ≡ got (record { address = address + step; line = line; column = column }) (advanced c size)
-unfolding entry_at ◌>>=◌
-entry_whole {step = step} w l address h reach = rw (w.first, le-ltb step l h, lt-ltb (address + step) (2 ^ 32) reach, w.rest (address + step))
+unfolding entry_at check pure ◌>>=◌
+entry_whole {step = step} w l address h reach = rw (w.first, le-leb l step h, lt-ltb (address + step) (2 ^ 32) reach, w.rest (address + step))
 
 -- ── a check ──
 
@@ -129,7 +124,7 @@ checked-is s = go (table s start)
   where
     end : (b : Bool) (sites : List Site) (next : Cursor) →
         as_checked (if b then got sites next else refused (Refusal.Positions (PositionsFault.Trailing (length s - next.at)))) ≡
-        (if b then Checked.Sound else Checked.Refused (Refusal.Positions (PositionsFault.Trailing (length s - next.at))))
+        (if b then Ok tt else Err (Refusal.Positions (PositionsFault.Trailing (length s - next.at))))
     end true sites next = refl
     end false sites next = refl
 
@@ -142,7 +137,7 @@ pub checking-begins : (s : List ℕ) (count : ℕ) (next : Cursor) → field s s
 unfolding table ◌>>=◌
 checking-begins s count next e = record { previous = none; before = first; rest = checked-is s ∙ rw e }
 
-pub checked_refused : (s : List ℕ) (r : Refusal) → field s start ≡ refused r → Checked.Refused r ≡ checked s
+pub checked_refused : (s : List ℕ) (r : Refusal) → field s start ≡ refused r → Err r ≡ checked s
 unfolding table ◌>>=◌
 checked_refused s r e = sym (checked-is s ∙ rw e)
 
@@ -156,7 +151,7 @@ module _ {s : List ℕ} {c : Cursor} {left least address : ℕ} (g : CheckingAt 
       CheckingAt s next (left - 1) 1 site.address
   checking-more h {site} e = record { previous = earlier site.address; before = later site.address; rest = checking-entry h ∙ rw e }
 
-  pub checking-refused : 0 < left → {r : Refusal} → entry_at least address s c ≡ refused r → Checked.Refused r ≡ checked s
+  pub checking-refused : 0 < left → {r : Refusal} → entry_at least address s c ≡ refused r → Err r ≡ checked s
   checking-refused h e = sym (checking-entry h ∙ rw e)
 
   pub checking-ended : left ≤ 0 → ended_at (length s) c.at ≡ checked s
@@ -171,12 +166,12 @@ pub resolving-begins : (s : List ℕ) (asked count : ℕ) (next : Cursor) → fi
 unfolding resolved ◌>>=◌
 resolving-begins s asked count next e = rw e
 
-pub resolved-refused : (s : List ℕ) (asked : ℕ) (r : Refusal) → field s start ≡ refused r → resolved s asked ≡ Resolved.Nothing
+pub resolved-refused : (s : List ℕ) (asked : ℕ) (r : Refusal) → field s start ≡ refused r → resolved s asked ≡ None
 unfolding resolved ◌>>=◌
 resolved-refused s asked r e = rw e
 
 module _ (s : List ℕ) (asked : ℕ) (c : Cursor) (left address : ℕ) where
-  pub seek-ended : left ≤ 0 → sought s asked c left address ≡ Resolved.Nothing
+  pub seek-ended : left ≤ 0 → sought s asked c left address ≡ None
   unfolding seek pure
   seek-ended h = let n : left ≡ 0 = omega arith in rw n
 
@@ -184,7 +179,7 @@ module _ (s : List ℕ) (asked : ℕ) (c : Cursor) (left address : ℕ) where
     left_is : left ≡ suc (left - 1)
     left_is = omega arith
 
-    pub seek-refused : (r : Refusal) → entry_at 0 address s c ≡ refused r → sought s asked c left address ≡ Resolved.Nothing
+    pub seek-refused : (r : Refusal) → entry_at 0 address s c ≡ refused r → sought s asked c left address ≡ None
     unfolding seek ◌>>=◌
     seek-refused r e = rw (left_is, walked-is address s c, e)
 
@@ -196,7 +191,7 @@ module _ (s : List ℕ) (asked : ℕ) (c : Cursor) (left address : ℕ) where
       pub seek-more : site.address < asked → sought s asked c left address ≡ sought s asked next (left - 1) site.address
       unfolding seek pure ◌>>=◌
       seek-more at =
-          ap (λ (k : ℕ). or_nothing (seek k asked address s c)) left_is ∙ rw (walked-is address s c, e, lt-ltb site.address asked at)
+          ap (λ (k : ℕ). or_none (seek k asked address s c)) left_is ∙ rw (walked-is address s c, e, lt-ltb site.address asked at)
 
 -- a walk that has just begun is at address 0
 pub seek-begins : (s : List ℕ) (asked : ℕ) {w : Walk} {c : Cursor} {count : ℕ} → w ≡ begins c count asked →
@@ -204,21 +199,21 @@ pub seek-begins : (s : List ℕ) (asked : ℕ) {w : Walk} {c : Cursor} {count : 
 seek-begins s asked is = let none_passed : asked - asked ≡ 0 = omega arith in rw (is, none_passed)
 
 -- a step fits 32 bits
-pub step_fits_lem : {s : List ℕ} {c : Cursor} {e : ShortSite} → SiteAt s c e → 0 < e.size → e.step < 2 ^ 32
-step_fits_lem {s} {c} g p = field_below s c _ _ (g.reads p).first
+pub step_fits_lem : {s : List ℕ} {c : Cursor} {step line column size : ℕ} → Whole s c step line column size → step < 2 ^ 32
+step_fits_lem {s} {c} w = field_below s c _ _ w.first
 
 -- the short entry at hand stops the walk, or is passed
-module _ {s : List ℕ} (asked : ℕ) {c : Cursor} {left : ℕ} (address : ℕ) {e : ShortSite} (g : SiteAt s c e) (h : 0 < left) (p : 0 < e.size)
-    (fits : address + e.step < 2 ^ 32) where
-  at-hand : entry_at 0 address s c ≡ got (record { address = address + e.step; line = e.line; column = e.column }) (advanced c e.size)
-  at-hand = entry_whole (g.reads p) 0 address zero-le fits
+module _ {s : List ℕ} (asked : ℕ) {c : Cursor} {left : ℕ} (address : ℕ) {step line column size : ℕ} (w : Whole s c step line column size) (h : 0 < left)
+    (fits : address + step < 2 ^ 32) where
+  at-hand : entry_at 0 address s c ≡ got (record { address = address + step; line = line; column = column }) (advanced c size)
+  at-hand = entry_whole w 0 address zero-le fits
 
-  pub seek_hit : {to : ℕ} → address + e.step ≡ to → asked ≤ to → sought s asked c left address ≡ site_for asked (record { address = to; line = e.line; column = e.column })
+  pub seek_hit : {to : ℕ} → address + step ≡ to → asked ≤ to → sought s asked c left address ≡ site_for asked (record { address = to; line = line; column = column })
   seek_hit is at =
       seek_found s asked c left address h _ _ at-hand (omega arith) ∙
-      ap (λ (to : ℕ). site_for asked (record { address = to; line = e.line; column = e.column })) is
+      ap (λ (to : ℕ). site_for asked (record { address = to; line = line; column = column })) is
 
-  pub seek-missed : left ≡ 1 → address + e.step < asked → sought s asked c left address ≡ Resolved.Nothing
+  pub seek-missed : left ≡ 1 → address + step < asked → sought s asked c left address ≡ None
   seek-missed one at = seek-more s asked c left address h _ _ at-hand at ∙ seek-ended s asked _ _ _ (omega arith)
 
 -- ── running: both at once ──
@@ -281,24 +276,24 @@ checking-runs {address = address} {w} g fits r =
     record { room = r.room (omega arith); within = omega (arith, r.lower); at = rw same at (r.sound address (omega arith) g) }
 
 -- from a count of a single byte on
-pub single-runs : {s : List ℕ} {n : ℕ} {w : Walk} → SingleAt s n → (n ≡ 0 → ⊥) → Runs s 1 n 0 (2 ^ 32) w → Checking s w
-single-runs {s} {n} g p r = checking-runs (checking-begins s n _ ((g (omega (arith, p))).reads (omega arith))) (omega arith) r
+pub single-runs : {s : List ℕ} {n : ℕ} {w : Walk} → field s start ≡ got n (advanced start 1) → Runs s 1 n 0 (2 ^ 32) w → Checking s w
+single-runs {s} {n} e r = checking-runs (checking-begins s n _ e) (omega arith) r
 
 -- no entry is left, and no byte
-pub checking-sound : {s : List ℕ} {w : Walk} → Checking s w → w.left ≡ 0 → w.c.at ≡ length s → Checked.Sound ≡ checked s
+pub checking-sound : {s : List ℕ} {w : Walk} → Checking s w → w.left ≡ 0 → w.c.at ≡ length s → Ok tt ≡ checked s
 checking-sound {s} {w} g none_left all_read =
-    let ends : Checked.Sound ≡ ended_at (length s) w.c.at = rw (eq-eqb w.c.at (length s) all_read) in
+    let ends : Ok tt ≡ ended_at (length s) w.c.at = rw (eq-eqb w.c.at (length s) all_read) in
     ends ∙ checking-ended g.at (omega arith)
 
 -- one entry behind a count of one, and no byte more
-pub alone-sound : (s : List ℕ) → length s ≡ 4 → get_or s 0 0 ≡ 1 → bit_or (bit_or (get_or s 1 0) (get_or s 2 0)) (get_or s 3 0) < 128 → Checked.Sound ≡ checked s
+pub alone-sound : (s : List ℕ) → length s ≡ 4 → get_or s 0 0 ≡ 1 → bit_or (bit_or (get_or s 1 0) (get_or s 2 0)) (get_or s 3 0) < 128 → Ok tt ≡ checked s
 alone-sound s size one low =
-    let n : SingleAt s 1 = λ _. number_is_lem 1 (omega arith) (rw one at (field-one s start (omega arith) (omega arith))) in
+    let n : field s start ≡ got 1 (advanced start 1) = rw one at (field-one s start (omega arith) (omega arith)) in
     let entry : Moves s 1 (get_or s 1 0) 4 = record { size = 3; entry = plain-three s (record { at = 1 }) (omega arith) low; is = refl; inside = omega arith } in
     let g : Running s 1 1 0 (2 ^ 32) 1 1 0 (2 ^ 32) = record { runs = runs-begins s 1 1 0 (2 ^ 32); inside = omega arith } in
     let step-below : get_or s 1 0 < 128 = low-one (get_or s 1 0) (get_or s 2 0) (get_or s 3 0) low in
     let passed : Running s 1 1 0 (2 ^ 32) 4 0 1 (2 ^ 32 - get_or s 1 0) = running_more g (omega arith) entry (omega arith) (omega arith) in
-    checking-sound (single-runs n (λ h. absurd (omega arith)) passed.runs) refl (omega arith)
+    checking-sound (single-runs n passed.runs) refl (omega arith)
 
 -- resolving goes on where a walk below the address asked has run
 pub record Seeking (s : List ℕ) (asked : ℕ) (from w : Walk) : Type 0 where

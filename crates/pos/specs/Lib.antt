@@ -2,4 +2,3 @@
 pub mod Steps
 pub mod Skim
 pub mod Passes
-pub mod Stages

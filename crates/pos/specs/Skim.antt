@@ -1,40 +1,17 @@
--- What skimming says: short numbers and entries as the definitions read them, and what is still to be read behind them.
-use Rattle.std.specs.Prelude.{◌≡◌, ℕ, ◌+◌, ◌-◌, ◌^◌, ◌<◌, ◌≤◌, Bool, true, List, length}
+-- What skimming says: short entries as the definitions read them, and what is still to be read behind them.
+use Rattle.std.specs.Prelude.{◌≡◌, ℕ, ◌+◌, ◌-◌, ◌^◌, ◌<◌, ◌≤◌, Bool, true, List, Ok, Option}
 use Rattle.grammar.specs.declared.Cursor.{Cursor}
-use Rattle.grammar.specs.Outcome.{start, advanced, got}
-use Rattle.position_table.specs.declared.Checked.{Checked}
-use Rattle.position_table.specs.declared.Resolved.{Resolved}
-use Rattle.pos.specs.declared.skim.Short.{Short}
-use Rattle.pos.specs.declared.skim.ShortSite.{ShortSite}
+use Rattle.grammar.specs.Outcome.{advanced, got}
+use Rattle.position_table.specs.declared.Position.{Position}
 use Rattle.pos.specs.declared.skim.Walk.{Walk}
-use Rattle.position_table.specs.Table.{Previous, none as nothing, earlier, field, entries, checked, seek, or_nothing}
+use Rattle.position_table.specs.Table.{Previous, none, earlier, field, entries, checked, seek, or_none}
 use Rattle.pos.specs.Steps.{placed, ends_as}
-
--- not short
-abbrev pub none : Short
-none = record { value = 0; size = 0 }
-
--- a short number is read as the definition reads it
-pub record NumberAt (s : List ℕ) (c : Cursor) (r : Short) : Type 0 where
-  pub inside : r.size ≤ length s - c.at
-  pub reads : 0 < r.size → field s c ≡ got r.value (advanced c r.size)
-
--- a count of a single byte
-abbrev pub SingleAt : List ℕ → ℕ → Type 0
-SingleAt s n = 0 < n → NumberAt s start (record { value = n; size = 1 })
 
 -- an entry of so many bytes, with its numbers
 pub record Whole (s : List ℕ) (c : Cursor) (step line column size : ℕ) : Type 0 where
   pub width : ℕ
   pub first : field s c ≡ got step (advanced c width)
   pub rest : (to : ℕ) → placed to s (advanced c width) ≡ got (record { address = to; line = line; column = column }) (advanced c size)
-
-abbrev pub no_site : ShortSite
-no_site = record { step = 0; line = 0; column = 0; size = 0 }
-
-pub record SiteAt (s : List ℕ) (c : Cursor) (r : ShortSite) : Type 0 where
-  pub inside : r.size ≤ length s - c.at
-  pub reads : 0 < r.size → Whole s c r.step r.line r.column r.size
 
 -- the same, of which the step alone is told
 pub record Entry (s : List ℕ) (c : Cursor) (step size : ℕ) : Type 0 where
@@ -44,7 +21,7 @@ pub record Entry (s : List ℕ) (c : Cursor) (step size : ℕ) : Type 0 where
 
 -- the least step behind the entry before: none for the first, whose address counts from 0
 pub data Before : Previous → ℕ → ℕ → Type 0 where
-  first : Before nothing 0 0
+  first : Before none 0 0
   later : (address : ℕ) → Before (earlier address) 1 address
 
 -- a walk at a place, and one before the first entry
@@ -68,11 +45,11 @@ pub record Checking (s : List ℕ) (w : Walk) : Type 0 where
 
 -- a table that is seen to be sound
 abbrev pub SoundAt : List ℕ → Bool → Type 0
-SoundAt s b = b ≡ true → Checked.Sound ≡ checked s
+SoundAt s b = b ≡ true → Ok tt ≡ checked s
 
 -- what resolving still has to read, behind an address
-abbrev pub sought : List ℕ → ℕ → Cursor → ℕ → ℕ → Resolved
-sought s asked c left address = or_nothing (seek left asked address s c)
+abbrev pub sought : List ℕ → ℕ → Cursor → ℕ → ℕ → Option Position
+sought s asked c left address = or_none (seek left asked address s c)
 
 -- a walk that runs leaves both as they are: the address rises by what the room falls
 pub record Runs (s : List ℕ) (from count over within : ℕ) (w : Walk) : Type 0 where

@@ -1,30 +1,70 @@
-// How sites are encoded: a first pass measures them and finds the first offence, a second one writes. Each pass is a
-// step on one site, which whatever holds the sites can call.
-ghost use Rattle.std.specs.Prelude.{◌≡◌, ◌+◌, ◌-◌, ◌<◌, ◌≤◌, length, nat_le};
+// How sites are encoded: a first pass finds the first offence or measures them, and a second one writes.
+ghost use Rattle.std.specs.Prelude.{◌≡◌, ◌+◌, ◌-◌, ◌<◌, ◌≤◌, ℕ, List, length, get_or};
 ghost use Rattle.std.proofs.lemmas.List.Edits.{sets};
 ghost use Rattle.grammar.specs.Number.{shortest};
-ghost use Rattle.position_table.specs.Encode.{sites_of};
-ghost use Rattle.pos.specs.Passes as passes;
+ghost use Rattle.position_table.specs.declared.Site as listed;
+ghost use Rattle.position_table.specs.Encode.{sites_of, kept, bytes_of, encoded, encoded_bytes};
+ghost use Rattle.pos.specs.Passes.{entry_of, measured_of};
 
-use position_table::{Encoded, Site};
+use position_table::Site;
 use refusal::Refusal;
 
-// What the sites seen so far come to: how many are kept, the address of the last of these, their size, and whether one
-// did not ascend, with its address.
+// Sites, whatever holds them.
+pub trait Sites {
+    ghost list: { Self → List listed.Site };
+
+    fn count(&self) -> usize
+        ensures { result ≡ length (list self.now) };
+
+    fn site(&self, k: usize) -> Site
+        requires { k < length (list self.now) }
+        ensures { result ≡ get_or (list self.now) k result };
+}
+
+impl<'a> Sites for &'a [Site] {
+    ghost list = { λ sites. sites.now };
+
+    fn count(&self) -> usize {
+        self.len()
+    }
+
+    fn site(&self, k: usize) -> Site {
+        self[k]
+    }
+}
+
+// Sites that three slices hold: as many as the shortest has places.
+#[derive(Clone, Copy)]
+pub struct Columns<'a> {
+    pub addresses: &'a [u32],
+    pub lines: &'a [u32],
+    pub columns: &'a [u32],
+}
+
+impl<'a> Sites for Columns<'a> {
+    ghost list = { λ held. sites_of held.addresses.now held.lines.now held.columns.now };
+
+    fn count(&self) -> usize {
+        self.addresses
+            .len()
+            .min(self.lines.len())
+            .min(self.columns.len())
+    }
+
+    fn site(&self, k: usize) -> Site {
+        Site {
+            address: self.addresses[k],
+            line: self.lines[k],
+            column: self.columns[k],
+        }
+    }
+}
+
+// How many sites are kept, and how many bytes their table takes.
 #[derive(Clone, Copy)]
 pub struct Measured {
     pub kept: usize,
-    pub previous: u32,
     pub size: usize,
-    pub broken: bool,
-    pub offender: u32,
-}
-
-// Where the next site is written, and the address before it.
-#[derive(Clone, Copy)]
-pub struct Place {
-    pub at: usize,
-    pub previous: u32,
 }
 
 // How many bytes a number takes.
@@ -34,21 +74,11 @@ fn width(value: u32) -> usize
     varint::size(value as u64)
 }
 
-// The step from one address to another; from a later one it is 0.
-fn step_of(previous: u32, address: u32) -> u32
-    ensures { result ≡ address - previous }
-{
-    if previous < address {
-        return address - previous;
-    }
-    0
-}
-
 // How many bytes a site takes behind the address before it.
 fn entry_size(previous: u32, site: Site) -> usize
-    ensures { result ≡ length (passes.entry_of previous site) }
+    ensures { result ≡ length (entry_of previous site) }
 {
-    let step = step_of(previous, site.address);
+    let step = site.address.saturating_sub(previous);
     if step | site.line | site.column < 128 {
         return 3;
     }
@@ -58,102 +88,37 @@ fn entry_size(previous: u32, site: Site) -> usize
     width(step) + width(site.line) + width(site.column)
 }
 
-pub fn unmeasured() -> Measured
-    ensures { result ≡ passes.unmeasured }
+// The first pass: those of line 0 are dropped, and the others must ascend.
+fn measure<S: Sites>(sites: &S) -> Result<Measured, Refusal>
+    requires { length (S.list sites.now) ≤ 262144 }
+    ensures { result ≡ measured_of (S.list sites.now) }
 {
-    Measured {
-        kept: 0,
-        previous: 0,
-        size: 0,
-        broken: false,
-        offender: 0,
+    let mut kept: usize = 0;
+    let mut size: usize = 0;
+    let mut previous: u32 = 0;
+    for k in 0..sites.count() {
+        let site = sites.site(k);
+        if site.line == 0 {
+            continue;
+        }
+        let address = site.address;
+        if address <= previous && kept != 0 {
+            return Err(Refusal::NotAscending {
+                address,
+                earlier: previous,
+            });
+        }
+        kept += 1;
+        size += entry_size(previous, site);
+        previous = address;
     }
+    Ok(Measured {
+        kept,
+        size: varint::size(kept as u64) + size,
+    })
 }
 
-// Whether an address does not ascend; the first one kept may be 0.
-fn falls(m: Measured, address: u32) -> bool
-    ensures { result ≡ passes.falls_to m address }
-{
-    if m.previous < address {
-        return false;
-    }
-    if address < m.previous {
-        return true;
-    }
-    m.kept != 0
-}
-
-// One site more is measured.
-pub fn measure_step(m: Measured, site: Site) -> Measured
-    ensures { result ≡ passes.measured m site }
-{
-    if site.line == 0 {
-        return m;
-    }
-    if m.broken {
-        return m;
-    }
-    if falls(m, site.address) {
-        return Measured {
-            kept: m.kept,
-            previous: m.previous,
-            size: m.size,
-            broken: true,
-            offender: site.address,
-        };
-    }
-    Measured {
-        kept: std::num::wrapping_add_usize(m.kept, 1),
-        previous: site.address,
-        size: std::num::wrapping_add_usize(m.size, entry_size(m.previous, site)),
-        broken: false,
-        offender: 0,
-    }
-}
-
-// What is answered, before anything is written.
-pub fn judged(n: usize, m: Measured, room: usize) -> Encoded
-    ensures { result ≡ passes.judged_of n m room }
-{
-    if 262144 < n {
-        return Encoded::Refused(Refusal::TooLong { length: n });
-    }
-    if m.broken {
-        return Encoded::Refused(Refusal::NotAscending {
-            address: m.offender,
-            earlier: m.previous,
-        });
-    }
-    let needed = std::num::wrapping_add_usize(varint::size(m.kept as u64), m.size);
-    if room < needed {
-        return Encoded::Refused(Refusal::NoRoom { needed });
-    }
-    Encoded::Done { size: needed }
-}
-
-// Whether a site has so much room: thirty bytes are enough for any.
-fn fits(previous: u32, site: Site, room: usize) -> bool
-    ensures { result ≡ nat_le (length (passes.entry_of previous site)) room }
-{
-    if 30 <= room {
-        return true;
-    }
-    entry_size(previous, site) <= room
-}
-
-// The count is written, for those that have tested the room.
-pub fn write_count(kept: usize, out: &mut [u8]) -> Place
-    requires { length (shortest kept) ≤ length out.old }
-    ensures value { result ≡ passes.behind_count kept }
-    ensures out_after { out.new ≡ passes.with_count kept out.old }
-{
-    Place {
-        at: varint::put_at(out, 0, kept as u64),
-        previous: 0,
-    }
-}
-
-// A number of a single byte is written, for those that have tested the room.
+// A number of a single byte is written, for those that have tested the room. Not `put`, which would test again what is known here.
 fn put_byte(out: &mut [u8], at: usize, value: u32) -> usize
     requires value_bound { value < 128 }
     requires value_in_bounds { at + length (shortest value) ≤ length out.old }
@@ -188,14 +153,13 @@ fn put(out: &mut [u8], at: usize, value: u32) -> usize
     varint::put_at(out, at, value as u64)
 }
 
-// A site is written, for those that have tested the room; the place behind it is handed back.
-fn put_entry(p: Place, site: Site, out: &mut [u8]) -> usize
-    requires { p.at + length (passes.entry_of p.previous site) ≤ length out.old }
-    ensures value { result ≡ p.at + length (passes.entry_of p.previous site) }
-    ensures out_after { out.new ≡ sets out.old p.at (passes.entry_of p.previous site) }
+// A site is written behind the address before it, for those that have tested the room; the place behind it is handed back.
+fn put_entry(out: &mut [u8], at: usize, previous: u32, site: Site) -> usize
+    requires { at + length (entry_of previous site) ≤ length out.old }
+    ensures value { result ≡ at + length (entry_of previous site) }
+    ensures out_after { out.new ≡ sets out.old at (entry_of previous site) }
 {
-    let at = p.at;
-    let step = step_of(p.previous, site.address);
+    let step = site.address.saturating_sub(previous);
     if step | site.line | site.column < 128 {
         out[at] = step as u8;
         out[at + 1] = site.line as u8;
@@ -212,83 +176,39 @@ fn put_entry(p: Place, site: Site, out: &mut [u8]) -> usize
     put(out, column, site.column)
 }
 
-// One site more is written, where it has room.
-pub fn write_step(p: Place, site: Site, out: &mut [u8]) -> Place
-    ensures value { result ≡ passes.place_after p site (length out.old) }
-    ensures out_after { out.new ≡ passes.bytes_after p site out.old }
+// The second pass, for those that have tested the room: the count, and then the sites.
+fn write<S: Sites>(sites: &S, count: usize, out: &mut [u8])
+    requires counted { count ≡ length (kept (S.list sites.now)) }
+    requires room { length (bytes_of (kept (S.list sites.now))) ≤ length out.old }
+    ensures { out.new ≡ sets out.old 0 (bytes_of (kept (S.list sites.now))) }
 {
-    let at = p.at;
-    let previous = p.previous;
-    if site.line == 0 {
-        return Place { at, previous };
-    }
-    if out.len() < at {
-        return Place { at, previous };
-    }
-    if fits(p.previous, site, out.len() - at) {
-        return Place {
-            at: put_entry(p, site, out),
-            previous: site.address,
-        };
-    }
-    Place { at, previous }
-}
-
-// How many sites three slices hold: as many as the shortest has places.
-pub fn places(addresses: &[u32], lines: &[u32], columns: &[u32]) -> usize
-    ensures { result ≡ length (sites_of addresses.now lines.now columns.now) }
-{
-    if columns.len() < lines.len() {
-        if columns.len() < addresses.len() {
-            return columns.len();
+    let mut at = varint::put_at(out, 0, count as u64);
+    let mut previous: u32 = 0;
+    for k in 0..sites.count() {
+        let site = sites.site(k);
+        if site.line == 0 {
+            continue;
         }
-        return addresses.len();
+        at = put_entry(out, at, previous, site);
+        previous = site.address;
     }
-    if lines.len() < addresses.len() {
-        return lines.len();
-    }
-    addresses.len()
 }
 
-// The first pass.
-pub fn measure(addresses: &[u32], lines: &[u32], columns: &[u32]) -> Measured
-    ensures { result ≡ passes.measured_all passes.unmeasured (sites_of addresses.now lines.now columns.now) }
+// Both passes: nothing is written before all is judged.
+pub fn encode<S: Sites>(sites: &S, out: &mut [u8]) -> Result<usize, Refusal>
+    ensures value { result ≡ encoded (S.list sites.now) (length out.old) }
+    ensures out_after { out.new ≡ encoded_bytes (S.list sites.now) out.old }
 {
-    let n = places(addresses, lines, columns);
-    let mut m = unmeasured();
-    let mut i = 0;
-    while i < n {
-        m = measure_step(
-            m,
-            Site {
-                address: addresses[i],
-                line: lines[i],
-                column: columns[i],
-            },
-        );
-        i += 1;
+    let n = sites.count();
+    if 262144 < n {
+        return Err(Refusal::TooLong { length: n });
     }
-    m
-}
-
-// The second pass, for those that have tested the room.
-pub fn write(addresses: &[u32], lines: &[u32], columns: &[u32], kept: usize, out: &mut [u8])
-    requires { length (shortest kept) ≤ length out.old }
-    ensures { out.new ≡ passes.written_from kept (sites_of addresses.now lines.now columns.now) out.old }
-{
-    let n = places(addresses, lines, columns);
-    let mut p = write_count(kept, out);
-    let mut i = 0;
-    while i < n {
-        p = write_step(
-            p,
-            Site {
-                address: addresses[i],
-                line: lines[i],
-                column: columns[i],
-            },
-            out,
-        );
-        i += 1;
+    let m = measure(sites)?;
+    let room = out.len();
+    let needed = m.size;
+    if room < needed {
+        return Err(Refusal::NoRoom { needed });
     }
+    write(sites, m.kept, out);
+    Ok(needed)
 }

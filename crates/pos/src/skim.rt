@@ -1,28 +1,22 @@
 // Most numbers of a table take at most three bytes, and most entries three to five. They are passed here, with no
-// refusal at hand: what is not short is left to the readers of reading.rt.
-ghost use Rattle.std.specs.Prelude.{◌≡◌};
-ghost use Rattle.pos.specs.Skim.{none, no_site, begins, walk_at, NumberAt, SingleAt, SiteAt, SoundAt, Runs};
+// refusal at hand: what is not short is none here, and left to the readers of reading.rt.
+ghost use Rattle.std.specs.Prelude.{◌≡◌, IfSome};
+ghost use Rattle.grammar.specs.Outcome.{start, advanced, got};
+ghost use Rattle.position_table.specs.Table.{field};
+ghost use Rattle.pos.specs.Skim.{begins, walk_at, Whole, SoundAt, Runs};
 
 use grammar::Cursor;
 
-// A number, and how many bytes it takes; 0 bytes say that it is not short.
-#[derive(Clone, Copy)]
-pub struct Short {
-    pub value: u32,
-    pub size: usize,
-}
-
-// An entry of short numbers, and how many bytes it takes; 0 bytes say that it is not short.
+// The numbers of an entry of three single bytes.
 #[derive(Clone, Copy)]
 pub struct ShortSite {
     pub step: u32,
     pub line: u32,
     pub column: u32,
-    pub size: usize,
 }
 
 // Where a walk through a table stands: the place, the entries left, the least step that may follow, and what the address
-// is below the walk's limit. A place of 0 says that the count was not short.
+// is below the walk's limit.
 #[derive(Clone, Copy)]
 pub struct Walk {
     pub c: Cursor,
@@ -43,105 +37,74 @@ pub fn begun(c: Cursor, count: u32, limit: u64) -> Walk
     }
 }
 
-fn long() -> Short
-    ensures { result ≡ none }
-{
-    Short { value: 0, size: 0 }
-}
-
-fn wide(b: u8) -> u32
-    ensures { result ≡ b }
-{
-    b as u32
-}
-
 // A number of at most three bytes.
-pub fn number(table: &[u8], c: Cursor) -> Short
-    ensures { NumberAt table.now c result }
+pub fn number(table: &[u8], c: Cursor) -> Option<(u32, Cursor)>
+    ensures { IfSome result (λ read. field table.now c ≡ got read.0 read.1) }
 {
     let at = c.at;
     if table.len() <= at {
-        return long();
+        return None;
     }
     let left = table.len() - at;
     let low = table[at];
     if low < 128 {
-        return Short {
-            value: wide(low),
-            size: 1,
-        };
+        return Some((low as u32, c.advance(1)));
     }
     if left <= 1 {
-        return long();
+        return None;
     }
     let mid = table[at + 1];
     if mid < 128 {
-        return Short {
-            value: wide(low - 128) + wide(mid) * 128,
-            size: 2,
-        };
+        let value = (low - 128) as u32 + mid as u32 * 128;
+        return Some((value, c.advance(2)));
     }
     if left <= 2 {
-        return long();
+        return None;
     }
     let top = table[at + 2];
     if top < 128 {
-        return Short {
-            value: wide(low - 128) + wide(mid - 128) * 128 + wide(top) * 16384,
-            size: 3,
-        };
+        let value = (low - 128) as u32 + (mid - 128) as u32 * 128 + top as u32 * 16384;
+        return Some((value, c.advance(3)));
     }
-    long()
+    None
 }
 
 // An entry of three single bytes, by one test of the bytes left.
-pub fn site(table: &[u8], c: Cursor) -> ShortSite
-    ensures { SiteAt table.now c result }
+pub fn site(table: &[u8], c: Cursor) -> Option<ShortSite>
+    ensures { IfSome result (λ e. Whole table.now c e.step e.line e.column 3) }
 {
     let at = c.at;
     if table.len() <= at {
-        return no_site();
+        return None;
     }
-    let left = table.len() - at;
-    if 2 < left {
-        let step = table[at];
-        let line = table[at + 1];
-        let column = table[at + 2];
-        if step | line | column < 128 {
-            return ShortSite {
-                step: wide(step),
-                line: wide(line),
-                column: wide(column),
-                size: 3,
-            };
-        }
+    if table.len() - at <= 2 {
+        return None;
     }
-    no_site()
+    let step = table[at];
+    let line = table[at + 1];
+    let column = table[at + 2];
+    if 128 <= step | line | column {
+        return None;
+    }
+    Some(ShortSite {
+        step: step as u32,
+        line: line as u32,
+        column: column as u32,
+    })
 }
 
-fn no_site() -> ShortSite
-    ensures { result ≡ no_site }
-{
-    ShortSite {
-        step: 0,
-        line: 0,
-        column: 0,
-        size: 0,
-    }
-}
-
-// The count where it is a single byte; 0 says that it is none, or no entries.
-pub fn single(table: &[u8]) -> u32
-    ensures { SingleAt table.now result }
+// The count where it is a single byte.
+fn single(table: &[u8]) -> Option<u32>
+    ensures { IfSome result (λ n. field table.now start ≡ got n (advanced start 1)) }
 {
     if table.len() == 0 {
-        return 0;
+        return None;
     }
     let count = table[0];
-    if count < 128 {
-        return wide(count);
+    if 128 <= count {
+        return None;
     }
-    0
+    Some(count as u32)
 }
 
 // A table of one entry, of single bytes, by one look.
@@ -180,13 +143,14 @@ pub fn run(table: &[u8], from: usize, count: u32, over: u32, within: u64) -> Wal
     if table.len() < at {
         return standing(at, left, least, room);
     }
+    // Not a `for`: an entry takes three to five bytes, and the walk stops where one is not short.
     while 0 < left {
         let rest = table.len() - at;
         if rest <= 2 {
             break;
         }
         let step = table[at];
-        if wide(step) < least {
+        if (step as u32) < least {
             break;
         }
         if room <= step as u64 {
@@ -224,13 +188,11 @@ pub fn run(table: &[u8], from: usize, count: u32, over: u32, within: u64) -> Wal
 pub fn passes(table: &[u8]) -> bool
     ensures { SoundAt table.now result }
 {
-    let n = single(table);
-    if n == 0 {
-        return false;
+    match single(table) {
+        Some(n) => {
+            let w = run(table, 1, n, 0, 0x1_0000_0000);
+            w.left == 0 && w.c.at == table.len()
+        }
+        None => false,
     }
-    let w = run(table, 1, n, 0, 0x1_0000_0000);
-    if w.left == 0 {
-        return w.c.at == table.len();
-    }
-    false
 }

@@ -4,7 +4,7 @@
 // Runs of ASCII are skipped in blocks. Any other text goes through a machine, whose state says what the
 // character at hand still owes. Where a byte leads from every state stands in one word, six bits for each
 // state at the place that is the state's own number: a step is a shift, and no branch depends on a byte.
-ghost use Rattle.std.specs.Prelude.{◌≡◌, ◌+◌, ◌≤◌, min, length, take, drop};
+ghost use Rattle.std.specs.Prelude.{◌≡◌, ◌+◌, ◌<◌, ◌≤◌, min, length, take, drop};
 ghost use Rattle.utf8.specs.Check.{next, is_utf8};
 ghost use Rattle.utf8.specs.Machine.{state_of, Numbered, Means, Tables, Walked, Passed, Covers, Screens, Sees};
 
@@ -101,73 +101,36 @@ fn walk(
     ensures { Walked bytes.now start from result end }
 {
     let mut state = start;
-    let mut at = from;
-    while at < end {
+    for at in from..end {
         state = next_state(state, bytes[at], classes, words);
-        at += 1;
     }
     state
 }
 
-// Sixteen bytes or-ed together: below 128 only where each of them is ASCII.
-fn sixteen(bytes: &[u8], at: usize) -> u8
-    requires { at + 16 ≤ length bytes.now }
-    ensures { Covers bytes.now at 16 result }
+// A block of bytes or-ed together: below 128 only where each of them is ASCII.
+fn block<const N: usize>(bytes: &[u8], at: usize) -> u8
+    requires { at + N ≤ length bytes.now }
+    ensures { Covers bytes.now at N result }
 {
     let mut all: u8 = 0;
-    for k in 0..16 {
+    for k in 0..N {
         all |= bytes[at + k];
     }
     all
 }
 
-fn sixty_four(bytes: &[u8], at: usize) -> u8
-    requires { at + 64 ≤ length bytes.now }
-    ensures { Covers bytes.now at 64 result }
-{
-    let front = sixteen(bytes, at) | sixteen(bytes, at + 16);
-    front | sixteen(bytes, at + 32) | sixteen(bytes, at + 48)
-}
-
-// Past the ASCII at a place, by blocks of 64, of 16, and byte by byte.
-fn past_by_64(bytes: &[u8], from: usize) -> usize
-    requires { from ≤ length bytes.now }
+// Past the ASCII at a place, a block at a time. A turn goes on by a block, so no range counts the places.
+fn past<const N: usize>(bytes: &[u8], from: usize) -> usize
+    requires size { 0 < N }
+    requires from_in_bounds { from ≤ length bytes.now }
     ensures { Passed bytes.now from result }
 {
     let mut at = from;
-    while 64 <= bytes.len() - at {
-        if 128 <= sixty_four(bytes, at) {
+    while N <= bytes.len() - at {
+        if 128 <= block::<N>(bytes, at) {
             return at;
         }
-        at += 64;
-    }
-    at
-}
-
-fn past_by_16(bytes: &[u8], from: usize) -> usize
-    requires { from ≤ length bytes.now }
-    ensures { Passed bytes.now from result }
-{
-    let mut at = from;
-    while 16 <= bytes.len() - at {
-        if 128 <= sixteen(bytes, at) {
-            return at;
-        }
-        at += 16;
-    }
-    at
-}
-
-fn past_by_1(bytes: &[u8], from: usize) -> usize
-    requires { from ≤ length bytes.now }
-    ensures { Passed bytes.now from result }
-{
-    let mut at = from;
-    while at < bytes.len() {
-        if 128 <= bytes[at] {
-            return at;
-        }
-        at += 1;
+        at += N;
     }
     at
 }
@@ -179,7 +142,7 @@ fn past_blocks(bytes: &[u8], at: usize, state: u64) -> usize
     ensures { Walked bytes.now state at state result }
 {
     if state == BETWEEN {
-        past_by_16(bytes, past_by_64(bytes, at))
+        past::<16>(bytes, past::<64>(bytes, at))
     } else {
         at
     }
@@ -190,7 +153,7 @@ fn chunk_end(at: usize, size: usize) -> usize
     requires { at ≤ size }
     ensures { result ≡ min (at + 32) size }
 {
-    if 32 <= size - at { at + 32 } else { size }
+    at + (size - at).min(32)
 }
 
 // The machine, from a place between two characters.
@@ -202,6 +165,7 @@ fn is_utf8_from(bytes: &[u8], from: usize) -> bool
     let words = WORDS;
     let mut state = BETWEEN;
     let mut at = from;
+    // Not a `for`: whole blocks are passed at once, so that no turn goes as far as another.
     while at < bytes.len() {
         let start = past_blocks(bytes, at, state);
         let end = chunk_end(start, bytes.len());
@@ -218,7 +182,7 @@ fn is_utf8_from(bytes: &[u8], from: usize) -> bool
 pub fn is_utf8(bytes: &[u8]) -> bool
     ensures { result ≡ is_utf8 bytes.now }
 {
-    let at = past_by_1(bytes, past_by_16(bytes, past_by_64(bytes, 0)));
+    let at = past::<1>(bytes, past::<16>(bytes, past::<64>(bytes, 0)));
     if at < bytes.len() {
         is_utf8_from(bytes, at)
     } else {
@@ -254,7 +218,7 @@ fn is_short_ascii(s: &[u8], start: usize, size: usize) -> bool
         return front(s, start, size) < 128;
     }
     if size < 32 {
-        return sixteen(s, start) | sixteen(s, end - 16) < 128;
+        return block::<16>(s, start) | block::<16>(s, end - 16) < 128;
     }
     false
 }

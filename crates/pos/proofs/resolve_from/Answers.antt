@@ -5,12 +5,9 @@ use Rattle.pos.proofs.resolve_from.Goals as goal
 
 pub returns-then-asked-e : goal.returns-then-asked-e
 returns-then-asked-e c =
-    c.site_for.ensures ∙ sym (seek_hit c.args.asked 0 c.site-e.ensures c.if-left-gt0.true c.if-e-gt0.true (omega (arith, step_fits_lem c.site-e.ensures c.if-e-gt0.true)) (zero-add _) c.if-asked-e.true)
+    c.site_for.ensures ∙
+    sym (seek_hit c.args.asked 0 c.in-Some.ensures c.if-left-gt0.true (omega (arith, step_fits_lem c.in-Some.ensures)) (zero-add _) c.if-asked-e.true)
 
 pub returns-then-left-eq1 : goal.returns-then-left-eq1
 returns-then-left-eq1 c =
-    sym (seek-missed c.args.asked 0 c.site-e.ensures c.if-left-gt0.true c.if-e-gt0.true (omega (arith, step_fits_lem c.site-e.ensures c.if-e-gt0.true)) c.if-left-eq1.true (omega (arith, c.if-asked-e.false)))
-
-pub returns : goal.returns
-returns c =
-    c.seek.ensures ∙ sym (rw (zero-add _) at (c.run.ensures.finds c.args.asked 0 (zero-add _) (omega (arith, c.ranges.asked.fits))))
+    sym (seek-missed c.args.asked 0 c.in-Some.ensures c.if-left-gt0.true (omega (arith, step_fits_lem c.in-Some.ensures)) c.if-left-eq1.true (omega (arith, c.if-asked-e.false)))

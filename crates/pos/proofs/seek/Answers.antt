@@ -5,4 +5,6 @@ use Rattle.pos.proofs.seek.Goals as goal
 
 pub returns-then-e-from : goal.returns-then-e-from
 returns-then-e-from c =
-    c.site_for.ensures ∙ sym (seek_hit c.args.asked (c.args.asked - c.args.from.room) c.site-e.ensures c.if-from-gt0.true c.if-e-gt0.true (omega (arith, c.requires, c.ranges.asked.fits, c.if-e-from.true)) (omega (arith, c.requires, c.if-e-from.true)) (omega arith))
+    c.site_for.ensures ∙
+    sym (seek_hit c.args.asked (c.args.asked - c.args.from.room) c.in-Some.ensures c.if-from-gt0.true
+    (omega (arith, c.requires, c.ranges.asked.fits, c.if-e-from.true)) (omega (arith, c.requires, c.if-e-from.true)) (omega arith))

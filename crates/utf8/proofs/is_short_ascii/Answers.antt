@@ -15,7 +15,7 @@ returns-then-size-lt16 c =
 pub returns-then-size-lt32 : goal.returns-then-size-lt32
 returns-then-size-lt32 c =
     sees _ _ _ _ c.requires
-    (covers-both _ _ 16 _ 16 _ _ _ c.sixteen.ensures c.sixteen-then-size-lt32.ensures (omega arith) (omega arith) (omega arith))
+    (covers-both _ _ 16 _ 16 _ _ _ c.block.ensures c.block-then-size-lt32.ensures (omega arith) (omega arith) (omega arith))
 
 pub returns : goal.returns
 returns c =

@@ -6,4 +6,4 @@ use Rattle.utf8.proofs.past_blocks.Goals as goal
 pub returns-then-state-eq-BETWEEN : goal.returns-then-state-eq-BETWEEN
 returns-then-state-eq-BETWEEN c =
     blocks-walked _ _ _ _ c.if-state-eq-BETWEEN.true
-    (passed_then _ _ _ _ c.past_by_64.ensures c.past_by_16.ensures)
+    (passed_then _ _ _ _ c.past.ensures c.past-then-state-eq-BETWEEN.ensures)

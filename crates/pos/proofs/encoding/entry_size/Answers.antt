@@ -5,7 +5,7 @@ use Rattle.pos.proofs.encoding.entry_size.Goals as goal
 
 pub returns-then-step-site-lt128 : goal.returns-then-step-site-lt128
 returns-then-step-site-lt128 c =
-    plain_size _ _ c.step_of-step.ensures c.if-step-site-lt128.true
+    plain_size _ _ c.saturating_sub-step.ensures c.if-step-site-lt128.true
 
 pub overflow_add-result : goal.overflow_add-result
 overflow_add-result c =
@@ -13,16 +13,16 @@ overflow_add-result c =
 
 pub returns-then-step-site-lt128-2 : goal.returns-then-step-site-lt128-2
 returns-then-step-site-lt128-2 c =
-    rw c.width.ensures (sym (plain-line _ _ c.step_of-step.ensures c.if-step-site-lt128-2.true))
+    rw c.width.ensures (sym (plain-line _ _ c.saturating_sub-step.ensures c.if-step-site-lt128-2.true))
 
 pub overflow_add-result-2 : goal.overflow_add-result-2
 overflow_add-result-2 c =
-    omega (arith, short-ten c.step_of-step.result, short-ten c.args.site.line)
+    omega (arith, short-ten c.saturating_sub-step.result, short-ten c.args.site.line)
 
 pub overflow_add-result-3 : goal.overflow_add-result-3
 overflow_add-result-3 c =
-    omega (arith, short-ten c.step_of-step.result, short-ten c.args.site.line, short-ten c.args.site.column)
+    omega (arith, short-ten c.saturating_sub-step.result, short-ten c.args.site.line, short-ten c.args.site.column)
 
 pub returns : goal.returns
 returns c =
-    rw (c.width-4.ensures, c.width-3.ensures, c.width-2.ensures, c.step_of-step.ensures) (sym (entry-size _ _))
+    rw (c.width-4.ensures, c.width-3.ensures, c.width-2.ensures, c.saturating_sub-step.ensures) (sym (entry-size _ _))

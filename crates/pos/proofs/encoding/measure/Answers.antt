@@ -1,45 +1,39 @@
 -- The loop has measured the sites in front (`Measuring`).
 use Rattle.std.proofs.Common.{arith}
-use Rattle.pos.proofs.Sites.{Within, site_within, sites-drop, measuring-none, measuring-more, measuring-all}
+use Rattle.pos.proofs.Puts.{entry-small, short-ten}
+use Rattle.pos.proofs.Sites.{measuring_none, measuring_dropped, measuring_first, measuring_more, measuring_falls, measuring_all}
 use Rattle.pos.proofs.encoding.measure.Goals as goal
-use Rattle.pos.proofs.encoding.measure.Goals.{In-loop-i}
+use Rattle.pos.proofs.encoding.measure.Goals.{else-address-previous-via-then-address-previous+else-kept-ne0, else-address-previous-via-else-address-previous}
 
-inside : (c : In-loop-i) →
-    Within c.args.addresses.now c.args.lines.now c.args.columns.now c.loop-i.i
-inside c = site_within _ _ _ c.places-n.ensures c.loop-i-test.true
+pub loop-k-init : goal.loop-k-init
+loop-k-init g c =
+    measuring_none _
 
-pub loop-i-init : goal.loop-i-init
-loop-i-init c =
-    rw c.unmeasured-m.ensures (measuring-none _)
+pub loop-k-preserved-then-site-eq0 : goal.loop-k-preserved-then-site-eq0
+loop-k-preserved-then-site-eq0 g c =
+    measuring_dropped c.loop-k.invariant c.site-site.result (omega arith) c.site-site.ensures c.if-site-eq0.true
 
-pub offset_bounds-addresses-i : goal.offset_bounds-addresses-i
-offset_bounds-addresses-i c =
-    omega (arith, (inside c).first)
+pub returns-then-kept-ne0 : goal.returns-then-kept-ne0
+returns-then-kept-ne0 g c =
+    measuring_falls c.loop-k.invariant c.site-site.result (omega arith) c.site-site.ensures c.if-site-eq0.false c.if-kept-ne0.true c.if-address-previous.true
 
-pub bounds-addresses-i : goal.bounds-addresses-i
-bounds-addresses-i c =
-    (inside (goal.at.bounds-addresses-i c).In-loop-i).first
+pub overflow_add-size : goal.overflow_add-size
+overflow_add-size g c =
+    omega (arith, c.entry_size-size.ensures, entry-small c.loop-k.previous c.site-site.result)
 
-pub offset_bounds-lines-i : goal.offset_bounds-lines-i
-offset_bounds-lines-i c =
-    omega (arith, (inside (goal.at.offset_bounds-lines-i c).In-loop-i).second)
+pub loop-k-preserved : goal.loop-k-preserved
+loop-k-preserved g c =
+    rw c.entry_size-size.ensures (elim c.else-address-previous.branch [
+      | else-address-previous-via-then-address-previous+else-kept-ne0 w ↦
+          measuring_first c.loop-k.invariant c.site-site.result (omega arith) c.site-site.ensures c.if-site-eq0.false w.if-kept-ne0.false
+      | else-address-previous-via-else-address-previous w ↦
+          measuring_more c.loop-k.invariant c.site-site.result (omega arith) c.site-site.ensures c.if-site-eq0.false w.if-address-previous.false
+    ])
 
-pub bounds-lines-i : goal.bounds-lines-i
-bounds-lines-i c =
-    (inside (goal.at.bounds-lines-i c).In-loop-i).second
-
-pub offset_bounds-columns-i : goal.offset_bounds-columns-i
-offset_bounds-columns-i c =
-    omega (arith, (inside (goal.at.offset_bounds-columns-i c).In-loop-i).third)
-
-pub bounds-columns-i : goal.bounds-columns-i
-bounds-columns-i c =
-    (inside (goal.at.bounds-columns-i c).In-loop-i).third
-
-pub loop-i-preserved : goal.loop-i-preserved
-loop-i-preserved c =
-    rw c.measure_step-m.ensures (measuring-more c.loop-i.invariant (rw c.places-n.ensures at c.loop-i-test.true) (sites-drop _ _ _ _ (rw c.places-n.ensures at c.loop-i-test.true)))
+pub overflow_add-result : goal.overflow_add-result
+overflow_add-result g c =
+    omega (arith, c.size.ensures, short-ten c.loop-k.kept)
 
 pub returns : goal.returns
-returns c =
-    measuring-all c.loop-i.invariant (rw c.places-n.ensures at c.loop-i-test.false)
+returns g c =
+    rw c.size.ensures (measuring_all c.loop-k.invariant (omega arith))

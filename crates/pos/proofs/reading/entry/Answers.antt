@@ -1,19 +1,12 @@
--- The step, the address that it reaches, and the rest.
-use Rattle.grammar.specs.Outcome.{◌>>=◌}
+-- Neither test refuses the step.
+use Rattle.std.proofs.Common.{◌+◌, ◌^◌, ◌<◌, arith, le-leb, lt-ltb}
+use Rattle.grammar.specs.Outcome.{pure, ◌>>=◌}
+use Rattle.grammar.specs.Combinators.{check}
 use Rattle.pos.specs.Steps.{entry_at}
 use Rattle.pos.proofs.reading.entry.Goals as goal
 
-pub returns-in-At : goal.returns-in-At
-unfolding entry_at ◌>>=◌
-returns-in-At c =
-    rw (c.field.ensures, c.in-Got.is, ← c.reach.ensures, c.in-At.is) c.placed.ensures
-
-pub returns-in-Refused-reach : goal.returns-in-Refused-reach
-unfolding entry_at ◌>>=◌
-returns-in-Refused-reach c =
-    rw (c.field.ensures, c.in-Got.is, ← c.reach.ensures, c.in-Refused-reach.is)
-
-pub returns-in-Refused : goal.returns-in-Refused
-unfolding entry_at ◌>>=◌
-returns-in-Refused c =
-    rw (c.field.ensures, c.in-Refused.is)
+pub returns : goal.returns
+unfolding entry_at check pure ◌>>=◌
+returns c =
+    let fits : c.args.address + c.in_ok-step.step < 2 ^ 32 = omega arith in
+    rw (c.in_ok-step.ensures, le-leb _ _ c.if-step-least.false, lt-ltb _ _ fits) c.placed.ensures

@@ -1,17 +1,13 @@
--- A short number, or what index answers, with a refusal as a table says it.
+-- What index answers, with a refusal as a table says it.
 use Rattle.position_table.specs.Table.{field}
 use Rattle.pos.proofs.reading.field.Goals as goal
 
-pub returns-then-n-gt0 : goal.returns-then-n-gt0
-returns-then-n-gt0 c =
-    rw c.advance.ensures (c.number-n.ensures.reads c.if-n-gt0.true)
-
-pub returns-in-Got : goal.returns-in-Got
+pub returns-in-Ok : goal.returns-in-Ok
 unfolding field
-returns-in-Got c =
-    rw (c.index.ensures, c.in-Got.is)
+returns-in-Ok c =
+    rw c.in-Ok.ensures
 
-pub returns-in-Refused : goal.returns-in-Refused
+pub returns-in-Err : goal.returns-in-Err
 unfolding field
-returns-in-Refused c =
-    rw (c.index.ensures, c.in-Refused.is, c.in_table.ensures)
+returns-in-Err c =
+    rw (c.in-Err.ensures, c.in_table.ensures)

@@ -13,90 +13,6 @@ pub loop-left-init : goal.loop-left-init
 loop-left-init c =
     record { runs = runs-begins _ _ _ _ _; inside = c.if-table-at.false }
 
-pub overflow_sub-rest : goal.overflow_sub-rest
-overflow_sub-rest c =
-    c.loop-left.invariant.inside
-
-pub bounds-table-at : goal.bounds-table-at
-bounds-table-at c =
-    omega (arith, c.loop-left.invariant.inside, c.well_formed.0.0)
-
-pub overflow_add-at : goal.overflow_add-at
-overflow_add-at c =
-    omega (arith, c.loop-left.invariant.inside, c.well_formed.0.0)
-
-pub bounds-table-at-in-loop-left : goal.bounds-table-at-in-loop-left
-bounds-table-at-in-loop-left c =
-    omega (arith, c.loop-left.invariant.inside, c.well_formed.0.0)
-
-pub overflow_add-at-in-loop-left : goal.overflow_add-at-in-loop-left
-overflow_add-at-in-loop-left c =
-    omega (arith, c.loop-left.invariant.inside, c.well_formed.0.0)
-
-pub bounds-table-at-in-loop-left-2 : goal.bounds-table-at-in-loop-left-2
-bounds-table-at-in-loop-left-2 c =
-    omega (arith, c.loop-left.invariant.inside, c.well_formed.0.0)
-
-pub overflow_add-at-then-step-table-lt128 : goal.overflow_add-at-then-step-table-lt128
-overflow_add-at-then-step-table-lt128 c =
-    omega (arith, c.loop-left.invariant.inside, c.well_formed.0.0)
-
-pub overflow_add-at-else-step-table-lt128 : goal.overflow_add-at-else-step-table-lt128
-overflow_add-at-else-step-table-lt128 c =
-    omega (arith, c.loop-left.invariant.inside, c.well_formed.0.0)
-
-pub bounds-table-at-else-step-table-lt128 : goal.bounds-table-at-else-step-table-lt128
-bounds-table-at-else-step-table-lt128 c =
-    omega (arith, c.loop-left.invariant.inside, c.well_formed.0.0)
-
-pub overflow_add-at-else-step-table-lt128-2 : goal.overflow_add-at-else-step-table-lt128-2
-overflow_add-at-else-step-table-lt128-2 c =
-    omega (arith, c.loop-left.invariant.inside, c.well_formed.0.0)
-
-pub bounds-table-at-else-step-table-lt128-2 : goal.bounds-table-at-else-step-table-lt128-2
-bounds-table-at-else-step-table-lt128-2 c =
-    omega (arith, c.loop-left.invariant.inside, c.well_formed.0.0)
-
-pub overflow_add-at-then-step-table-lt128-2 : goal.overflow_add-at-then-step-table-lt128-2
-overflow_add-at-then-step-table-lt128-2 c =
-    omega (arith, c.loop-left.invariant.inside, c.well_formed.0.0)
-
-pub overflow_add-at-else-step-table-lt128-2-2 : goal.overflow_add-at-else-step-table-lt128-2-2
-overflow_add-at-else-step-table-lt128-2-2 c =
-    omega (arith, c.loop-left.invariant.inside, c.well_formed.0.0)
-
-pub bounds-table-at-else-step-table-lt128-2-2 : goal.bounds-table-at-else-step-table-lt128-2-2
-bounds-table-at-else-step-table-lt128-2-2 c =
-    omega (arith, c.loop-left.invariant.inside, c.well_formed.0.0)
-
-pub overflow_add-at-else-step-table-lt128-2-3 : goal.overflow_add-at-else-step-table-lt128-2-3
-overflow_add-at-else-step-table-lt128-2-3 c =
-    omega (arith, c.loop-left.invariant.inside, c.well_formed.0.0)
-
-pub bounds-table-at-else-step-table-lt128-2-3 : goal.bounds-table-at-else-step-table-lt128-2-3
-bounds-table-at-else-step-table-lt128-2-3 c =
-    omega (arith, c.loop-left.invariant.inside, c.well_formed.0.0)
-
-pub overflow_add-at-else-step-table-lt128-2-4 : goal.overflow_add-at-else-step-table-lt128-2-4
-overflow_add-at-else-step-table-lt128-2-4 c =
-    omega (arith, c.loop-left.invariant.inside, c.well_formed.0.0)
-
-pub bounds-table-at-else-step-table-lt128-2-4 : goal.bounds-table-at-else-step-table-lt128-2-4
-bounds-table-at-else-step-table-lt128-2-4 c =
-    omega (arith, c.loop-left.invariant.inside, c.well_formed.0.0)
-
-pub overflow_add-at-else-step-table-lt128-2-5 : goal.overflow_add-at-else-step-table-lt128-2-5
-overflow_add-at-else-step-table-lt128-2-5 c =
-    omega (arith, c.loop-left.invariant.inside, c.well_formed.0.0)
-
-pub bounds-table-at-else-step-table-lt128-2-5 : goal.bounds-table-at-else-step-table-lt128-2-5
-bounds-table-at-else-step-table-lt128-2-5 c =
-    omega (arith, c.loop-left.invariant.inside, c.well_formed.0.0)
-
-pub overflow_add-at-else-step-table-lt128-2-6 : goal.overflow_add-at-else-step-table-lt128-2-6
-overflow_add-at-else-step-table-lt128-2-6 c =
-    omega (arith, c.loop-left.invariant.inside, c.well_formed.0.0)
-
 moves : (c : Joined-step-table-lt128) → Moves c.args.table.now c.loop-left.at (get_or c.args.table.now c.loop-left.at 0) c.if-step-table-lt128.at
 moves c =
     elim c.if-step-table-lt128.branch [
@@ -107,7 +23,7 @@ moves c =
 
 pub loop-left-preserved : goal.loop-left-preserved
 loop-left-preserved c =
-    running_more c.loop-left.invariant c.loop-left-test.true (moves c) (rw c.wide.ensures at c.if-wide-least.false) c.if-room-step.false
+    running_more c.loop-left.invariant c.loop-left-test.true (moves c) c.if-step-least.false c.if-room-step.false
 
 pub returns : goal.returns
 returns c =
