@@ -1,4 +1,3 @@
--- The laws of this crate: rows of chains and steps, a chain behind its steps, and the loop over chains.
+-- What the proofs of this crate share.
+pub mod Tags
 pub mod Words
-pub mod Standing
-pub mod Chaining

@@ -1,2 +1,2 @@
--- What the answers of this crate say, and the parts of a chain that a function of its own reads.
+-- The parts of a step that functions of their own read.
 pub mod Answers

@@ -1,59 +1,33 @@
 // What a chain does at the end.
 ghost use Rattle.std.specs.Prelude.{◌≡◌};
 ghost use Rattle.format.specs.File as definition;
-ghost use Rattle.chains.specs.Answers.{tail_is, operator_tail};
+ghost use Rattle.grammar.specs.Read.{answer};
 
-use fields::ReadByte;
 use format::records::{OperatorIndex, Tail};
 use format::tags::TailTag;
-use grammar::Cursor;
+use grammar::{Cursor, Read};
 use refusal::{Place, Refusal};
-use varint::ReadIndex;
 
-#[derive(Clone, Copy)]
-pub enum ReadTail {
-    Got { tail: Tail, next: Cursor },
-    Refused(Refusal),
-}
-
-pub fn tail(s: &[u8], c: Cursor) -> ReadTail
-    ensures { definition.tail s.now c ≡ tail_is result }
+#[tactic(auto, using(grammar::proofs::Read::reads, crate::proofs::Tags::tags), unfolding(format::specs::File::tail))]
+pub fn tail(s: &[u8], c: Cursor) -> Read<Tail>
+    ensures { definition.tail s.now c ≡ answer result }
 {
-    match fields::byte(s, c) {
-        ReadByte::Got { value: tag, next } => {
-            if tag == TailTag::READ {
-                ReadTail::Got {
-                    tail: Tail::Read,
-                    next,
-                }
-            } else if tag == TailTag::ASSIGN {
-                ReadTail::Got {
-                    tail: Tail::Assign,
-                    next,
-                }
-            } else if tag == TailTag::ASSIGN_OP {
-                operator(s, next)
-            } else {
-                ReadTail::Refused(Refusal::UnknownTag {
-                    place: Place::Tail,
-                    byte: tag,
-                })
-            }
+    let (tag, c) = fields::byte(s, c)?;
+    match tag {
+        TailTag::READ => Ok((Tail::Read, c)),
+        TailTag::ASSIGN => Ok((Tail::Assign, c)),
+        TailTag::ASSIGN_OP => {
+            let (op, c) = varint::index(s, c)?;
+            Ok((
+                Tail::AssignOp {
+                    op: OperatorIndex(op),
+                },
+                c,
+            ))
         }
-        ReadByte::Refused(r) => ReadTail::Refused(r),
-    }
-}
-
-fn operator(s: &[u8], c: Cursor) -> ReadTail
-    ensures { operator_tail s.now c ≡ tail_is result }
-{
-    match varint::index(s, c) {
-        ReadIndex::Got { value, next } => ReadTail::Got {
-            tail: Tail::AssignOp {
-                op: OperatorIndex(value),
-            },
-            next,
-        },
-        ReadIndex::Refused(r) => ReadTail::Refused(r),
+        _ => Err(Refusal::UnknownTag {
+            place: Place::Tail,
+            byte: tag,
+        }),
     }
 }

@@ -14,7 +14,7 @@ use Rattle.grammar.specs.Number.{number, index, signed}
 use Rattle.format.specs.Artifact as A
 use Rattle.format.specs.File.{bytes, string, scalar, kind, constant}
 use Rattle.format.specs.Rows.{kind_tag, kind_count}
-use Rattle.constants.specs.Parts.{Front, unit, boolean, int, float, char, str, array, map, blob, range, pointer, int_front, float_front, char_front, str_front, array_front, map_front, blob_front, range_front, pointer_front, front_of, front, item_key, item, items, Ab, script_tail, kind_of, kind_tail}
+use Rattle.constants.specs.Parts.{Front, unit, boolean, int, float, char, str, array, map, blob, range, pointer, front_of, front, item_key, item, items, Ab, kind_of, kind_tail}
 
 -- ── one read after another, in two groupings ──
 
@@ -82,7 +82,7 @@ rest places levels used (pointer name n) = do
 
 pub joined : (places levels used : ℕ) (s : List ℕ) (c : Cursor) →
     constant places (suc levels) used s c ≡ (room 2 places used >> (front >>= rest places levels used)) s c
-unfolding constant front front_of int_front float_front char_front str_front array_front map_front blob_front range_front pointer_front items item item_key
+unfolding constant front_of items item item_key
 joined places levels used s c =
     same_after s (room 2 places used) _ _
     (λ _. regroup s byte _ _ k
@@ -115,7 +115,7 @@ abbrev pub kind_words : A.Kind → Parser Ab
 kind_words k = pure (kind_tag k, kind_count k)
 
 pub kind-joined : (s : List ℕ) (c : Cursor) → kind_tail s c ≡ (kind >>= kind_words) s c
-unfolding kind_tail kind_of kind script_tail
+unfolding kind_of kind
 kind-joined s c =
     regroup s byte _ _ kind_words
     (λ tag at. choose kind_words s at tag 0x81 _ _ _ _ (at_once kind_words s at A.normal)

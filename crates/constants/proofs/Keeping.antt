@@ -3,15 +3,20 @@ use Prim.Native.Nat.{ℕ}
 use mathlib.Core.Path.{◌≡◌, refl, sym, ◌∙◌, ap}
 use mathlib.Core.List.{List}
 use lib.Seq.{sets}
+use Rattle.std.proofs.Common.{Result, Ok, Err}
+use Rattle.std.specs.Result.{IsErrAnd}
+use Rattle.std.proofs.lemmas.Result.{err_from_is_err_and}
 use Rattle.refusal.specs.declared.Refusal.{Refusal}
 use Rattle.grammar.specs.declared.Cursor.{Cursor}
 use Rattle.grammar.specs.Outcome.{Outcome, got, refused}
 use Rattle.grammar.proofs.Outcome.{got-ne-refused, got-value, got-next}
-use Rattle.tables.specs.declared.Listed.{Listed}
 use Rattle.constants.specs.Kept.{places_behind, Kept}
 
+abbrev pub Answer : Type 0
+Answer = Result (ℕ × Cursor) Refusal
+
 pub kept-got : {A : Type 0} {o : Outcome A} {behind : A → ℕ} {words : A → List ℕ} {at : ℕ} {entry exit : List ℕ} {v : A} {next : Cursor} {k : ℕ} →
-    o ≡ got v next → behind v ≡ k → exit ≡ sets entry at (words v) → Kept o behind words at entry exit (Listed.Got k next)
+    o ≡ got v next → behind v ≡ k → exit ≡ sets entry at (words v) → Kept o behind words at entry exit (Ok (k, next))
 kept-got {words = words} {at} {entry} {v = v} {next} e b t =
     record {
       result = rw (e, b);
@@ -19,8 +24,13 @@ kept-got {words = words} {at} {entry} {v = v} {next} e b t =
     }
 
 pub kept-refused : {A : Type 0} {o : Outcome A} {behind : A → ℕ} {words : A → List ℕ} {at : ℕ} {entry exit : List ℕ} {r : Refusal} →
-    o ≡ refused r → Kept o behind words at entry exit (Listed.Refused r)
+    o ≡ refused r → Kept o behind words at entry exit (Err r)
 kept-refused e = record { result = rw e; table = λ w last is. absurd (got-ne-refused (sym is ∙ e)) }
+
+-- an answer that is some refusal is told as that refusal
+pub kept_err : {A : Type 0} {o : Outcome A} {behind : A → ℕ} {words : A → List ℕ} {at : ℕ} {entry exit : List ℕ} {e : Refusal} {read : Answer} →
+    Kept o behind words at entry exit (Err e) → IsErrAnd read (λ x. x ≡ e) → Kept o behind words at entry exit read
+kept_err {read = read} k is = let p = err_from_is_err_and read is in rw (p.1, p.2) k
 
 -- and back: what the contract says was got
 pub record Out {A : Type 0} (o : Outcome A) (behind : A → ℕ) (words : A → List ℕ) (at : ℕ) (entry exit : List ℕ) (k : ℕ) (next : Cursor) : Type 0 where
@@ -30,7 +40,7 @@ pub record Out {A : Type 0} (o : Outcome A) (behind : A → ℕ) (words : A → 
   pub stored : exit ≡ sets entry at (words value)
 
 pub kept_out : {A : Type 0} {o : Outcome A} {behind : A → ℕ} {words : A → List ℕ} {at : ℕ} {entry exit : List ℕ} {k : ℕ} {next : Cursor} →
-    Kept o behind words at entry exit (Listed.Got k next) → Out o behind words at entry exit k next
+    Kept o behind words at entry exit (Ok (k, next)) → Out o behind words at entry exit k next
 kept_out {A} {o} {behind} {words} {at} {entry} {exit} {k} {next} h = go o refl h.result
   where
     go : (x : Outcome A) → o ≡ x → places_behind behind x ≡ got k next → Out o behind words at entry exit k next
@@ -40,7 +50,7 @@ kept_out {A} {o} {behind} {words} {at} {entry} {exit} {k} {next} h = go o refl h
     go (refused r) is e = absurd (got-ne-refused (sym e))
 
 pub kept-no : {A : Type 0} {o : Outcome A} {behind : A → ℕ} {words : A → List ℕ} {at : ℕ} {entry exit : List ℕ} {r : Refusal} →
-    Kept o behind words at entry exit (Listed.Refused r) → o ≡ refused r
+    Kept o behind words at entry exit (Err r) → o ≡ refused r
 kept-no {A} {o} {behind} {r = r} h = go o refl h.result
   where
     go : (x : Outcome A) → o ≡ x → places_behind behind x ≡ refused r → o ≡ refused r

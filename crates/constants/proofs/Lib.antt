@@ -1,5 +1,7 @@
 -- The laws of this crate: runs of bytes and bits, reads into the table, the parts of a constant joined, and the loop over items.
 pub mod Taken
+pub mod Tags
+pub mod Headed
 pub mod Keeping
 pub mod Joined
 pub mod Plain

@@ -17,3 +17,5 @@ module _ {A : Type 0} (n : ℕ) (what : List ℕ → ℕ → A) (s : List ℕ) (
   pub enough-there : c.at + n ≤ length s → taking n what s c ≡ got (what s c.at) (advanced c n)
   unfolding taking
   enough-there h = rw (le-leb (c.at + n) (length s) h)
+
+pub ruleset taken = (too_few, enough-there)

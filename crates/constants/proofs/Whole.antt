@@ -81,7 +81,7 @@ module _ (places levels used : ℕ) (s : List ℕ) (key : Span) where
 
   pub made : (f : Front) (c : Cursor) (es : List (Item levels)) (later : Cursor) (ab : Ab) (last : Cursor) →
       items_of f c ≡ got es later → tail_of (head_is f) s later ≡ got ab last → Made f c es ab last
-  unfolding items many tail_of pure
+  unfolding items many pure
   made unit c es later ab last i t = alone unit A.unit c es later ab last refl refl refl i t
   made (boolean false) c es later ab last i t = alone (boolean false) (A.boolean false) c es later ab last refl refl refl i t
   made (boolean true) c es later ab last i t = alone (boolean true) (A.boolean true) c es later ab last refl refl refl i t
@@ -134,7 +134,7 @@ module _ (places levels used : ℕ) (s : List ℕ) where
   pub tail-refused : (f : Front) (c : Cursor) (es : List (Item levels)) (later : Cursor) (r : Refusal) →
       items places levels (head_is f).keyed (head_is f).items (used + 1) s c ≡ got es later → tail_of (head_is f) s later ≡ refused r →
       rest places levels used f s c ≡ refused r
-  unfolding tail_of pure
+  unfolding pure
   tail-refused unit c es later r i t = absurd (got-ne-refused t)
   tail-refused (boolean false) c es later r i t = absurd (got-ne-refused t)
   tail-refused (boolean true) c es later r i t = absurd (got-ne-refused t)

@@ -27,49 +27,49 @@ pub data Front : Type 0 where
   range : Bool → ℤ → ℤ → Front
   pointer : Text → ℕ → Front
 
-unfoldable pub int_front : Parser Front
+abbrev pub int_front : Parser Front
 int_front = do
   n ← signed
   pure (int n)
 
-unfoldable pub float_front : Parser Front
+abbrev pub float_front : Parser Front
 float_front = do
   word ← fixed 8
   pure (float word)
 
-unfoldable pub char_front : Parser Front
+abbrev pub char_front : Parser Front
 char_front = do
   code ← index
   check (scalar code) Refusal.MalformedVarint
   pure (char code)
 
-unfoldable pub str_front : Parser Front
+abbrev pub str_front : Parser Front
 str_front = do
   t ← string
   pure (str t)
 
-unfoldable pub array_front : Parser Front
+abbrev pub array_front : Parser Front
 array_front = do
   n ← number 64
   pure (array n)
 
-unfoldable pub map_front : Parser Front
+abbrev pub map_front : Parser Front
 map_front = do
   n ← number 64
   pure (map n)
 
-unfoldable pub blob_front : Parser Front
+abbrev pub blob_front : Parser Front
 blob_front = do
   t ← bytes
   pure (blob t)
 
-unfoldable pub range_front : Bool → Parser Front
+abbrev pub range_front : Bool → Parser Front
 range_front inclusive = do
   from ← signed
   to ← signed
   pure (range inclusive from to)
 
-unfoldable pub pointer_front : Parser Front
+abbrev pub pointer_front : Parser Front
 pointer_front = do
   name ← string
   n ← number 64
@@ -92,7 +92,7 @@ front_of =
     ∣ 0x0D ⇒ pointer_front
     ∣ unknown Place.Constant
 
-unfoldable pub front : Parser Front
+abbrev pub front : Parser Front
 front = do
   tag ← byte
   front_of tag
@@ -156,7 +156,7 @@ items places levels keyed n used = many (item_behind levels) (item places levels
 abbrev pub Ab : Type 0
 Ab = ℕ × ℕ
 
-unfoldable pub script_tail : Parser Ab
+abbrev pub script_tail : Parser Ab
 script_tail = do
   n ← number 64
   pure (0x82, n)
@@ -164,12 +164,12 @@ script_tail = do
 unfoldable pub kind_of : ℕ → Parser Ab
 kind_of = 0x81 ⇒ pure (0x81, 0) ∣ 0x82 ⇒ script_tail ∣ unknown Place.Constant
 
-unfoldable pub kind_tail : Parser Ab
+abbrev pub kind_tail : Parser Ab
 kind_tail = do
   tag ← byte
   kind_of tag
 
-unfoldable pub tail_of : Head → Parser Ab
+abbrev pub tail_of : Head → Parser Ab
 tail_of h = if h.pointer then kind_tail else pure (h.a, h.b)
 
 -- the row, once a and b are known

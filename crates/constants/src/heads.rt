@@ -1,15 +1,12 @@
+#![tactic(auto, using(grammar::proofs::Read::reads, crate::proofs::Headed::heads))]
 // What stands before a constant's items: its tag, its number or its text, and how many items follow.
 ghost use Rattle.std.specs.Prelude.{◌≡◌};
-ghost use Rattle.format.specs.File as definition;
-ghost use Rattle.constants.specs.Answers.{head_read};
+ghost use Rattle.grammar.specs.Read.{answer};
 ghost use Rattle.constants.specs.Parts as parts;
 
-use crate::words::ReadWord;
-use fields::{ReadByte, ReadText};
 use format::tags::ConstantTag;
-use grammar::{Cursor, Span};
+use grammar::{Cursor, Read, Span};
 use refusal::{Place, Refusal};
-use varint::{ReadIndex, ReadNumber, ReadSigned};
 
 // The words of a row that are known before the items, with the items' count, and whether the items have keys and
 // a function pointer's kind follows them. Words stand before bytes, so that each is read back as it was stored.
@@ -24,28 +21,44 @@ pub struct Head {
     pub pointer: bool,
 }
 
-#[derive(Clone, Copy)]
-pub enum ReadHead {
-    Got { head: Head, next: Cursor },
-    Refused(Refusal),
-}
+// Neither a number nor a text, and no items.
+const BARE: Head = Head {
+    a: 0,
+    b: 0,
+    span: Span { start: 0, size: 0 },
+    items: 0,
+    tag: 0,
+    keyed: false,
+    pointer: false,
+};
 
-pub fn head_of(s: &[u8], c: Cursor) -> ReadHead
-    ensures { parts.headed parts.front s.now c ≡ head_read result }
+// A head with neither text nor items.
+fn single(tag: u8, a: u64, b: u64) -> Head
+    ensures { result ≡ parts.single tag a b }
 {
-    match fields::byte(s, c) {
-        ReadByte::Got { value, next } => by_tag(s, next, value),
-        ReadByte::Refused(r) => ReadHead::Refused(r),
-    }
+    Head { tag, a, b, ..BARE }
 }
 
-fn by_tag(s: &[u8], c: Cursor, tag: u8) -> ReadHead
-    ensures { parts.headed (parts.front_of tag) s.now c ≡ head_read result }
+// A head that is a text.
+fn texted(tag: u8, span: Span) -> Head
+    ensures { result ≡ parts.texted tag span }
+{
+    Head { tag, span, ..BARE }
+}
+
+pub fn head_of(s: &[u8], c: Cursor) -> Read<Head>
+    ensures { parts.headed parts.front s.now c ≡ answer result }
+{
+    let (tag, c) = fields::byte(s, c)?;
+    by_tag(s, c, tag)
+}
+
+#[tactic(auto, using(crate::proofs::Tags::tags, crate::proofs::Headed::by_tag), unfolding(crate::specs::Parts::front_of))]
+fn by_tag(s: &[u8], c: Cursor, tag: u8) -> Read<Head>
+    ensures { parts.headed (parts.front_of tag) s.now c ≡ answer result }
 {
     match tag {
-        ConstantTag::UNIT => single(ConstantTag::UNIT, 0, 0, c),
-        ConstantTag::FALSE => single(ConstantTag::FALSE, 0, 0, c),
-        ConstantTag::TRUE => single(ConstantTag::TRUE, 0, 0, c),
+        ConstantTag::UNIT | ConstantTag::FALSE | ConstantTag::TRUE => Ok((single(tag, 0, 0), c)),
         ConstantTag::INT => int(s, c),
         ConstantTag::FLOAT => float(s, c),
         ConstantTag::CHAR => char(s, c),
@@ -56,208 +69,102 @@ fn by_tag(s: &[u8], c: Cursor, tag: u8) -> ReadHead
         ConstantTag::RANGE => range(s, c, false),
         ConstantTag::RANGE_INCLUSIVE => range(s, c, true),
         ConstantTag::FN_PTR => pointer(s, c),
-        _ => ReadHead::Refused(Refusal::UnknownTag {
+        _ => Err(Refusal::UnknownTag {
             place: Place::Constant,
             byte: tag,
         }),
     }
 }
 
-// A head with neither text nor items.
-fn single(tag: u8, a: u64, b: u64, next: Cursor) -> ReadHead
-    ensures { result ≡ ReadHead.Got (parts.single tag a b) next }
+fn int(s: &[u8], c: Cursor) -> Read<Head>
+    ensures { parts.headed parts.int_front s.now c ≡ answer result }
 {
-    ReadHead::Got {
-        head: Head {
-            tag,
-            a,
-            b,
-            span: Span { start: 0, size: 0 },
-            items: 0,
-            keyed: false,
-            pointer: false,
-        },
-        next,
-    }
+    let (value, c) = varint::ivarint(s, c)?;
+    Ok((single(ConstantTag::INT, fields::bits_of(value), 0), c))
 }
 
-// A head that is a text.
-fn texted(tag: u8, span: Span, next: Cursor) -> ReadHead
-    ensures { result ≡ ReadHead.Got (parts.texted tag span) next }
+fn float(s: &[u8], c: Cursor) -> Read<Head>
+    ensures { parts.headed parts.float_front s.now c ≡ answer result }
 {
-    ReadHead::Got {
-        head: Head {
-            tag,
-            a: 0,
-            b: 0,
-            span,
-            items: 0,
-            keyed: false,
-            pointer: false,
-        },
-        next,
-    }
+    let (value, c) = crate::words::word(s, c)?;
+    Ok((single(ConstantTag::FLOAT, value, 0), c))
 }
 
-fn int(s: &[u8], c: Cursor) -> ReadHead
-    ensures { parts.headed parts.int_front s.now c ≡ head_read result }
+fn char(s: &[u8], c: Cursor) -> Read<Head>
+    ensures { parts.headed parts.char_front s.now c ≡ answer result }
 {
-    match varint::ivarint(s, c) {
-        ReadSigned::Got { value, next } => single(
-            ConstantTag::INT,
-            fields::bits_of(value),
-            0,
-            next,
-        ),
-        ReadSigned::Refused(r) => ReadHead::Refused(r),
+    let (code, c) = varint::index(s, c)?;
+    if char::from_u32(code).is_none() {
+        return Err(Refusal::MalformedVarint);
     }
+    Ok((single(ConstantTag::CHAR, code as u64, 0), c))
 }
 
-fn float(s: &[u8], c: Cursor) -> ReadHead
-    ensures { parts.headed parts.float_front s.now c ≡ head_read result }
+fn str(s: &[u8], c: Cursor) -> Read<Head>
+    ensures { parts.headed parts.str_front s.now c ≡ answer result }
 {
-    match crate::words::word(s, c) {
-        ReadWord::Got { value, next } => single(ConstantTag::FLOAT, value, 0, next),
-        ReadWord::Refused(r) => ReadHead::Refused(r),
-    }
+    let (span, c) = fields::string(s, c)?;
+    Ok((texted(ConstantTag::STRING, span), c))
 }
 
-// A Unicode scalar: no surrogate, and none above the last plane.
-fn is_scalar(code: u32) -> bool
-    ensures { result ≡ definition.scalar code }
+fn blob(s: &[u8], c: Cursor) -> Read<Head>
+    ensures { parts.headed parts.blob_front s.now c ≡ answer result }
 {
-    if code < 0xd800 {
-        return true;
-    }
-    if code < 0xe000 {
-        return false;
-    }
-    code < 0x11_0000
+    let (span, c) = fields::run(s, c)?;
+    Ok((texted(ConstantTag::BLOB, span), c))
 }
 
-fn char(s: &[u8], c: Cursor) -> ReadHead
-    ensures { parts.headed parts.char_front s.now c ≡ head_read result }
+// Two functions, this and the next: each is one read and one record, as short as a call of one over the tag and the keys.
+fn array(s: &[u8], c: Cursor) -> Read<Head>
+    ensures { parts.headed parts.array_front s.now c ≡ answer result }
 {
-    match varint::index(s, c) {
-        ReadIndex::Got { value, next } => {
-            if is_scalar(value) {
-                single(ConstantTag::CHAR, value as u64, 0, next)
-            } else {
-                ReadHead::Refused(Refusal::MalformedVarint)
-            }
-        }
-        ReadIndex::Refused(r) => ReadHead::Refused(r),
-    }
+    let (items, c) = varint::uvarint(s, c)?;
+    let head = Head {
+        tag: ConstantTag::ARRAY,
+        items,
+        ..BARE
+    };
+    Ok((head, c))
 }
 
-fn str(s: &[u8], c: Cursor) -> ReadHead
-    ensures { parts.headed parts.str_front s.now c ≡ head_read result }
+fn map(s: &[u8], c: Cursor) -> Read<Head>
+    ensures { parts.headed parts.map_front s.now c ≡ answer result }
 {
-    match fields::string(s, c) {
-        ReadText::Got { span, next } => texted(ConstantTag::STRING, span, next),
-        ReadText::Refused(r) => ReadHead::Refused(r),
-    }
+    let (items, c) = varint::uvarint(s, c)?;
+    let head = Head {
+        tag: ConstantTag::MAP,
+        items,
+        keyed: true,
+        ..BARE
+    };
+    Ok((head, c))
 }
 
-fn blob(s: &[u8], c: Cursor) -> ReadHead
-    ensures { parts.headed parts.blob_front s.now c ≡ head_read result }
+fn range(s: &[u8], c: Cursor, inclusive: bool) -> Read<Head>
+    ensures { parts.headed (parts.range_front inclusive) s.now c ≡ answer result }
 {
-    match fields::run(s, c) {
-        ReadText::Got { span, next } => texted(ConstantTag::BLOB, span, next),
-        ReadText::Refused(r) => ReadHead::Refused(r),
-    }
-}
-
-fn array(s: &[u8], c: Cursor) -> ReadHead
-    ensures { parts.headed parts.array_front s.now c ≡ head_read result }
-{
-    match varint::uvarint(s, c) {
-        ReadNumber::Got { value, next } => ReadHead::Got {
-            head: Head {
-                tag: ConstantTag::ARRAY,
-                a: 0,
-                b: 0,
-                span: Span { start: 0, size: 0 },
-                items: value,
-                keyed: false,
-                pointer: false,
-            },
-            next,
-        },
-        ReadNumber::Refused(r) => ReadHead::Refused(r),
-    }
-}
-
-fn map(s: &[u8], c: Cursor) -> ReadHead
-    ensures { parts.headed parts.map_front s.now c ≡ head_read result }
-{
-    match varint::uvarint(s, c) {
-        ReadNumber::Got { value, next } => ReadHead::Got {
-            head: Head {
-                tag: ConstantTag::MAP,
-                a: 0,
-                b: 0,
-                span: Span { start: 0, size: 0 },
-                items: value,
-                keyed: true,
-                pointer: false,
-            },
-            next,
-        },
-        ReadNumber::Refused(r) => ReadHead::Refused(r),
-    }
-}
-
-fn range(s: &[u8], c: Cursor, inclusive: bool) -> ReadHead
-    ensures { parts.headed (parts.range_front inclusive) s.now c ≡ head_read result }
-{
-    match varint::ivarint(s, c) {
-        ReadSigned::Got {
-            value: from,
-            next: behind,
-        } => match varint::ivarint(s, behind) {
-            ReadSigned::Got { value: to, next } => single(
-                range_tag(inclusive),
-                fields::bits_of(from),
-                fields::bits_of(to),
-                next,
-            ),
-            ReadSigned::Refused(r) => ReadHead::Refused(r),
-        },
-        ReadSigned::Refused(r) => ReadHead::Refused(r),
-    }
-}
-
-fn range_tag(inclusive: bool) -> u8
-    ensures { result ≡ parts.range_tag inclusive }
-{
-    if inclusive {
+    let (from, c) = varint::ivarint(s, c)?;
+    let (to, c) = varint::ivarint(s, c)?;
+    let tag = if inclusive {
         ConstantTag::RANGE_INCLUSIVE
     } else {
         ConstantTag::RANGE
-    }
+    };
+    Ok((single(tag, fields::bits_of(from), fields::bits_of(to)), c))
 }
 
 // The name and the count; the kind follows the curried constants.
-fn pointer(s: &[u8], c: Cursor) -> ReadHead
-    ensures { parts.headed parts.pointer_front s.now c ≡ head_read result }
+fn pointer(s: &[u8], c: Cursor) -> Read<Head>
+    ensures { parts.headed parts.pointer_front s.now c ≡ answer result }
 {
-    match fields::string(s, c) {
-        ReadText::Got { span, next: behind } => match varint::uvarint(s, behind) {
-            ReadNumber::Got { value, next } => ReadHead::Got {
-                head: Head {
-                    tag: ConstantTag::FN_PTR,
-                    a: 0,
-                    b: 0,
-                    span,
-                    items: value,
-                    keyed: false,
-                    pointer: true,
-                },
-                next,
-            },
-            ReadNumber::Refused(r) => ReadHead::Refused(r),
-        },
-        ReadText::Refused(r) => ReadHead::Refused(r),
-    }
+    let (span, c) = fields::string(s, c)?;
+    let (items, c) = varint::uvarint(s, c)?;
+    let head = Head {
+        tag: ConstantTag::FN_PTR,
+        span,
+        items,
+        pointer: true,
+        ..BARE
+    };
+    Ok((head, c))
 }

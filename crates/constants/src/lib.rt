@@ -9,87 +9,59 @@ ghost use Rattle.tables.specs.Table.{rows};
 ghost use Rattle.format.specs.Artifact.{behind};
 ghost use Rattle.format.specs.File as definition;
 ghost use Rattle.format.specs.Rows.{constant_rows};
-ghost use Rattle.constants.specs.Kept.{Kept, Read};
+ghost use Rattle.constants.specs.Kept.{Kept, KeptAll};
 ghost use Rattle.constants.specs.Parts as parts;
 
-use fields::ReadText;
 use format::tags::Limit;
-use grammar::{Cursor, Span};
-use heads::ReadHead;
+use grammar::{Cursor, Read, Span};
 use refusal::Refusal;
-use tables::Listed;
-use varint::ReadNumber;
 
 pub mod heads;
 pub mod tails;
 pub mod words;
 
-// How many top constants there are, the places of the table that all of them use, and the next place in the file.
+// How many top constants there are, and the places of the table that all of them use.
 #[derive(Clone, Copy)]
-pub enum ReadConstants {
-    Got {
-        tops: usize,
-        used: usize,
-        next: Cursor,
-    },
-    Refused(Refusal),
+pub struct Counts {
+    pub tops: usize,
+    pub used: usize,
 }
 
 // A count, then each constant at depth 0.
-pub fn constants(s: &[u8], c: Cursor, t: &mut [u64]) -> ReadConstants
-    ensures { Read (definition.constants (length t.old / 8) s.now c) t.old t.new result }
+pub fn constants(s: &[u8], c: Cursor, t: &mut [u64]) -> Read<Counts>
+    ensures { KeptAll (definition.constants (length t.old / 8) s.now c) t.old t.new result }
 {
-    match varint::uvarint(s, c) {
-        ReadNumber::Got { value, next } => match items(
-            s,
-            next,
-            Limit::DEPTH + 1,
-            value,
-            false,
-            0,
-            t,
-        ) {
-            Listed::Got { used, next: last } => ReadConstants::Got {
-                tops: value as usize,
-                used,
-                next: last,
-            },
-            Listed::Refused(r) => ReadConstants::Refused(r),
-        },
-        ReadNumber::Refused(r) => ReadConstants::Refused(r),
-    }
+    let (n, c) = varint::uvarint(s, c)?;
+    let (used, c) = items(s, c, Limit::DEPTH + 1, n, false, 0, t)?;
+    let counts = Counts {
+        tops: n as usize,
+        used,
+    };
+    Ok((counts, c))
 }
 
 // A constant at a depth that leaves so many levels: depth before Full, and Full before the tag. Its place is kept free
 // while its items are read, and its row is stored last.
 #[cycle(constant_items)]
-fn constant(s: &[u8], c: Cursor, levels: usize, used: usize, key: Span, t: &mut [u64]) -> Listed
+fn constant(
+    s: &[u8],
+    c: Cursor,
+    levels: usize,
+    used: usize,
+    key: Span,
+    t: &mut [u64],
+) -> Read<usize>
     ensures { Kept (definition.constant (length t.old / 8) levels used s.now c) (behind Text levels used) (constant_rows levels key) (used * 8) t.old t.new result }
 {
     if levels == 0 {
-        return Listed::Refused(Refusal::ConstantTooDeep);
+        return Err(Refusal::ConstantTooDeep);
     }
     if t.len() / 8 <= used {
-        return Listed::Refused(Refusal::Full { table: 2 });
+        return Err(Refusal::Full { table: 2 });
     }
-    match heads::head_of(s, c) {
-        ReadHead::Got { head, next } => match items(
-            s,
-            next,
-            levels - 1,
-            head.items,
-            head.keyed,
-            used + 1,
-            t,
-        ) {
-            Listed::Got {
-                used: behind,
-                next: later,
-            } => tails::closed(s, later, head, key, used, behind, t),
-            Listed::Refused(r) => Listed::Refused(r),
-        },
-        ReadHead::Refused(r) => Listed::Refused(r),
-    }
+    let (head, c) = heads::head_of(s, c)?;
+    let (behind, c) = items(s, c, levels - 1, head.items, head.keyed, used + 1, t)?;
+    tails::closed(s, c, head, key, used, behind, t)
 }
 
 // n constants one level deeper, each behind its key where they have keys.
@@ -102,45 +74,26 @@ fn items(
     keyed: bool,
     from: usize,
     t: &mut [u64],
-) -> Listed
+) -> Read<usize>
     ensures { Kept (parts.items (length t.old / 8) levels keyed n from s.now c) (foldl (parts.item_behind levels) from) (rows (parts.item_rows levels)) (from * 8) t.old t.new result }
 {
     let mut at = c;
-    let mut left = n;
     let mut used = from;
-    while 0 < left {
-        match item_key(s, at, keyed) {
-            ReadText::Got { span, next } => match constant(s, next, levels, used, span, t) {
-                Listed::Got {
-                    used: behind,
-                    next: later,
-                } => {
-                    used = behind;
-                    at = later;
-                }
-                Listed::Refused(r) => {
-                    return Listed::Refused(r);
-                }
-            },
-            ReadText::Refused(r) => {
-                return Listed::Refused(r);
-            }
-        }
-        left -= 1;
+    for _ in 0..n {
+        let (key, c) = item_key(s, at, keyed)?;
+        (used, at) = constant(s, c, levels, used, key, t)?;
     }
-    Listed::Got { used, next: at }
+    Ok((used, at))
 }
 
 // The key of a map's entry; other items have none.
-fn item_key(s: &[u8], c: Cursor, keyed: bool) -> ReadText
+#[tactic(auto, unfolding(crate::specs::Parts::item_key, grammar::specs::Outcome::pure))]
+fn item_key(s: &[u8], c: Cursor, keyed: bool) -> Read<Span>
     ensures { parts.item_key keyed s.now c ≡ text_is s.now result }
 {
     if keyed {
         fields::string(s, c)
     } else {
-        ReadText::Got {
-            span: Span { start: 0, size: 0 },
-            next: c,
-        }
+        Ok((Span { start: 0, size: 0 }, c))
     }
 }

@@ -1,75 +1,52 @@
+#![tactic(auto, using(grammar::proofs::Read::reads))]
 // What stands behind a constant's items: a function pointer's kind; and the row, stored once it is known.
 ghost use Rattle.std.specs.Prelude.{◌≡◌, ◌*◌, ◌/◌, ◌<◌, length};
-ghost use Rattle.constants.specs.Answers.{tail_read};
+ghost use Rattle.grammar.specs.Read.{answer};
 ghost use Rattle.constants.specs.Kept.{Kept};
 ghost use Rattle.constants.specs.Parts as parts;
 
 use crate::heads::Head;
-use fields::ReadByte;
 use format::tags::PointerTag;
-use grammar::{Cursor, Span};
+use grammar::{Cursor, Read, Span};
 use refusal::{Place, Refusal};
-use tables::Listed;
-use varint::ReadNumber;
 
-// The words a and b of a row.
-#[derive(Clone, Copy)]
-pub enum ReadTail {
-    Got { a: u64, b: u64, next: Cursor },
-    Refused(Refusal),
-}
-
-// 81, or 82 and a parameter count.
-fn kind(s: &[u8], c: Cursor) -> ReadTail
-    ensures { parts.kind_tail s.now c ≡ tail_read result }
+// The words a and b of a row: 81, or 82 and a parameter count.
+fn kind(s: &[u8], c: Cursor) -> Read<(u64, u64)>
+    ensures { parts.kind_tail s.now c ≡ answer result }
 {
-    match fields::byte(s, c) {
-        ReadByte::Got { value, next } => kind_by_tag(s, next, value),
-        ReadByte::Refused(r) => ReadTail::Refused(r),
-    }
+    let (tag, c) = fields::byte(s, c)?;
+    kind_by_tag(s, c, tag)
 }
 
-fn kind_by_tag(s: &[u8], c: Cursor, tag: u8) -> ReadTail
-    ensures { parts.kind_of tag s.now c ≡ tail_read result }
+#[tactic(auto, using(crate::proofs::Tags::tags_here, grammar::proofs::Read::reads), unfolding(crate::specs::Parts::kind_of))]
+fn kind_by_tag(s: &[u8], c: Cursor, tag: u8) -> Read<(u64, u64)>
+    ensures { parts.kind_of tag s.now c ≡ answer result }
 {
     match tag {
-        PointerTag::NORMAL => ReadTail::Got {
-            a: PointerTag::NORMAL as u64,
-            b: 0,
-            next: c,
-        },
+        PointerTag::NORMAL => Ok(((PointerTag::NORMAL as u64, 0), c)),
         PointerTag::SCRIPT => script(s, c),
-        _ => ReadTail::Refused(Refusal::UnknownTag {
+        _ => Err(Refusal::UnknownTag {
             place: Place::Constant,
             byte: tag,
         }),
     }
 }
 
-fn script(s: &[u8], c: Cursor) -> ReadTail
-    ensures { parts.script_tail s.now c ≡ tail_read result }
+fn script(s: &[u8], c: Cursor) -> Read<(u64, u64)>
+    ensures { parts.script_tail s.now c ≡ answer result }
 {
-    match varint::uvarint(s, c) {
-        ReadNumber::Got { value, next } => ReadTail::Got {
-            a: PointerTag::SCRIPT as u64,
-            b: value,
-            next,
-        },
-        ReadNumber::Refused(r) => ReadTail::Refused(r),
-    }
+    let (count, c) = varint::uvarint(s, c)?;
+    Ok(((PointerTag::SCRIPT as u64, count), c))
 }
 
-fn tail_of(s: &[u8], c: Cursor, head: Head) -> ReadTail
-    ensures { parts.tail_of head s.now c ≡ tail_read result }
+#[tactic(auto, unfolding(grammar::specs::Outcome::pure))]
+fn tail_of(s: &[u8], c: Cursor, head: Head) -> Read<(u64, u64)>
+    ensures { parts.tail_of head s.now c ≡ answer result }
 {
     if head.pointer {
         kind(s, c)
     } else {
-        ReadTail::Got {
-            a: head.a,
-            b: head.b,
-            next: c,
-        }
+        Ok(((head.a, head.b), c))
     }
 }
 
@@ -82,29 +59,25 @@ pub fn closed(
     used: usize,
     behind: usize,
     t: &mut [u64],
-) -> Listed
+) -> Read<usize>
     requires { used < length t.old / 8 }
     ensures { Kept (parts.tail_of head s.now c) (λ ab. behind) (parts.head_row head key) (used * 8) t.old t.new result }
 {
-    match tail_of(s, c, head) {
-        ReadTail::Got { a, b, next } => {
-            let span = head.span;
-            tables::store(
-                t,
-                used * 8,
-                &[
-                    head.tag as u64,
-                    a,
-                    b,
-                    span.start as u64,
-                    span.size as u64,
-                    head.items,
-                    key.start as u64,
-                    key.size as u64,
-                ],
-            );
-            Listed::Got { used: behind, next }
-        }
-        ReadTail::Refused(r) => Listed::Refused(r),
-    }
+    let ((a, b), next) = tail_of(s, c, head)?;
+    let span = head.span;
+    tables::store(
+        t,
+        used * 8,
+        &[
+            head.tag as u64,
+            a,
+            b,
+            span.start as u64,
+            span.size as u64,
+            head.items,
+            key.start as u64,
+            key.size as u64,
+        ],
+    );
+    Ok((behind, next))
 }

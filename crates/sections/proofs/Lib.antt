@@ -1,5 +1,5 @@
 -- The laws that the proofs of the sections cite.
-pub mod LowFirst
 pub mod Texts
-pub mod Ends
+pub mod Taken
 pub mod Three
+pub mod Ending

@@ -1,38 +1,44 @@
+#![tactic(auto, using(grammar::proofs::Read::answer_refused, crate::proofs::Taken::fields))]
 // Fields of a fixed number of bytes, low first (`take` of `Cursor` in format/mod.rs).
-ghost use Rattle.std.specs.Prelude.{◌≡◌, ◌≤◌};
-ghost use Rattle.sections.specs.Answers.{FixedRead};
+ghost use Rattle.std.specs.Prelude.{◌≡◌};
+ghost use Rattle.grammar.specs.Combinators.{taking};
+ghost use Rattle.grammar.specs.Combinators as combinators;
+ghost use Rattle.grammar.specs.Read.{answer};
+ghost use Rattle.sections.specs.Answers.{run};
 
-use grammar::Cursor;
+use grammar::{Cursor, Read};
 use refusal::Refusal;
-use varint::ReadNumber;
 
-fn wide(b: u8) -> u64
-    ensures { result ≡ b }
-{
-    b as u64
-}
-
-// At most eight bytes as a number, from the last to the first.
-pub fn fixed(s: &[u8], c: Cursor, n: usize) -> ReadNumber
-    requires { n ≤ 8 }
-    ensures { FixedRead n s.now c result }
+// The next N bytes, all of them or none.
+pub fn bytes<const N: usize>(s: &[u8], c: Cursor) -> Read<[u8; N]>
+    ensures { taking N (run N) s.now c ≡ answer result }
 {
     let at = c.at;
-    if s.len() < at {
-        return ReadNumber::Refused(Refusal::Truncated);
+    if s.len() < at || s.len() - at < N {
+        return Err(Refusal::Truncated);
     }
-    if s.len() - at < n {
-        return ReadNumber::Refused(Refusal::Truncated);
-    }
-    let mut value: u64 = 0;
-    let mut k = n;
-    while 0 < k {
-        k -= 1;
-        let low = s[at + k];
-        value = value * 256 + wide(low);
-    }
-    ReadNumber::Got {
-        value,
-        next: c.advance(n),
-    }
+    let mut bytes = [0; N];
+    bytes.copy_from_slice(&s[at..at + N]);
+    Ok((bytes, c.advance(N)))
+}
+
+pub fn two(s: &[u8], c: Cursor) -> Read<u16>
+    ensures { combinators.fixed 2 s.now c ≡ answer result }
+{
+    let (bytes, c) = bytes::<2>(s, c)?;
+    Ok((u16::from_le_bytes(bytes), c))
+}
+
+pub fn four(s: &[u8], c: Cursor) -> Read<u32>
+    ensures { combinators.fixed 4 s.now c ≡ answer result }
+{
+    let (bytes, c) = bytes::<4>(s, c)?;
+    Ok((u32::from_le_bytes(bytes), c))
+}
+
+pub fn eight(s: &[u8], c: Cursor) -> Read<u64>
+    ensures { combinators.fixed 8 s.now c ≡ answer result }
+{
+    let (bytes, c) = bytes::<8>(s, c)?;
+    Ok((u64::from_le_bytes(bytes), c))
 }

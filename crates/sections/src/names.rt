@@ -1,195 +1,97 @@
 // Names: their ends into a table, and the blob that the ends cut (section 3 of document 01).
-ghost use Rattle.std.specs.Prelude.{◌≡◌, ◌+◌, ◌-◌, ◌*◌, ◌≤◌, ◌<◌, length};
-ghost use Rattle.grammar.specs.Combinators.{enough, text_at};
+ghost use Rattle.std.specs.Prelude.{◌≡◌, length};
+ghost use Rattle.grammar.specs.Combinators.{enough};
 ghost use Rattle.grammar.specs.Number as numbers;
+ghost use Rattle.grammar.specs.Read.{answer};
 ghost use Rattle.tables.specs.Table.{records};
 ghost use Rattle.format.specs.File as definition;
-ghost use Rattle.varint.specs.Answers.{index_is};
-ghost use Rattle.sections.specs.Names.{joined, LeftEnds, names_counted, names_blob, names_judged, names_is, LeftNames};
+ghost use Rattle.sections.specs.Names.{joined, LeftEnds, LeftNames};
 
-use fields::ReadText;
-use grammar::{Cursor, Span};
+use grammar::{Cursor, Read, Span};
 use refusal::{NamesFault, Refusal};
-use varint::{ReadIndex, ReadNumber};
 
+// How many names there are, and the blob that their ends cut.
 #[derive(Clone, Copy)]
-pub enum ReadNames {
-    Got {
-        used: usize,
-        blob: Span,
-        next: Cursor,
-    },
-    Refused(Refusal),
+pub struct NameList {
+    pub used: usize,
+    pub blob: Span,
 }
 
-// What is known of the ends read so far: that none fell, and the last, or 0.
-#[derive(Clone, Copy)]
-pub struct Ends {
-    pub rising: bool,
-    pub last: u32,
-}
-
-#[derive(Clone, Copy)]
-pub enum ReadEnds {
-    Got {
-        used: usize,
-        ends: Ends,
-        next: Cursor,
-    },
-    Refused(Refusal),
-}
-
-pub fn names(s: &[u8], c: Cursor, t: &mut [u64]) -> ReadNames
+// The count is at most the bytes left. The blob is judged by the rule in its order.
+#[tactic(auto, using(grammar::proofs::Read::reads, crate::proofs::Ending::names_refused), unfolding(format::specs::File::names))]
+pub fn names(s: &[u8], c: Cursor, t: &mut [u64]) -> Read<NameList>
     ensures { LeftNames (definition.names (length t.old) s.now c) s.now t.old t.new result }
 {
-    match varint::uvarint(s, c) {
-        ReadNumber::Got { value, next } => names_counted(s, next, value, t),
-        ReadNumber::Refused(r) => ReadNames::Refused(r),
+    let (n, c) = varint::uvarint(s, c)?;
+    if !has(s, c, n) {
+        return Err(Refusal::Truncated);
     }
-}
-
-// Behind the count, which is at most the bytes left.
-fn names_counted(s: &[u8], c: Cursor, n: u64, t: &mut [u64]) -> ReadNames
-    ensures { LeftNames (names_counted n (length t.old) s.now c) s.now t.old t.new result }
-{
-    if has(s, c, n) {
-        match end_rows(s, c, n, t) {
-            ReadEnds::Got { used, ends, next } => names_blob(s, next, used, ends),
-            ReadEnds::Refused(r) => ReadNames::Refused(r),
-        }
-    } else {
-        ReadNames::Refused(Refusal::Truncated)
+    let ((used, last), c) = end_rows(s, c, n, t)?;
+    let (blob, c) = fields::run(s, c)?;
+    let Some(last) = last else {
+        return Err(Refusal::Names(NamesFault::Falls));
+    };
+    if last as usize != blob.size {
+        return Err(Refusal::Names(NamesFault::LastEnd));
     }
+    if !fields::is_text(s, blob) {
+        return Err(Refusal::Names(NamesFault::NotUtf8));
+    }
+    Ok((NameList { used, blob }, c))
 }
 
 // Whether n bytes stand from a place on.
 fn has(s: &[u8], c: Cursor, n: u64) -> bool
     ensures { result ≡ enough n s.now c }
 {
-    let at = c.at;
-    if s.len() < at {
-        return false;
-    }
-    let left = s.len() - at;
-    n <= left as u64
+    c.at <= s.len() && n <= (s.len() - c.at) as u64
 }
 
-fn end_rows(s: &[u8], c: Cursor, n: u64, t: &mut [u64]) -> ReadEnds
+// The last end, 0 of none; nothing where one fell.
+fn join(last: Option<u32>, end: u32) -> Option<u32>
+    ensures { result ≡ joined last end }
+{
+    match last {
+        Some(last) if last <= end => Some(end),
+        _ => None,
+    }
+}
+
+// Not the loop of tables: what the rule asks of the ends is kept while they are read, so that no second loop goes over them.
+fn end_rows(s: &[u8], c: Cursor, n: u64, t: &mut [u64]) -> Read<(usize, Option<u32>)>
     ensures { LeftEnds (records 1 (length t.old) numbers.index n 0 s.now c) t.old t.new result }
 {
     let mut at = c;
-    let mut left = n;
     let mut used: usize = 0;
-    let mut ends = Ends {
-        rising: true,
-        last: 0,
-    };
-    while 0 < left {
+    let mut last = Some(0);
+    for _ in 0..n {
         if t.len() <= used {
-            return ReadEnds::Refused(Refusal::Full { table: 1 });
+            return Err(Refusal::Full { table: 1 });
         }
-        match end(s, at) {
-            ReadIndex::Got { value, next } => {
-                t[used] = value as u64;
-                ends = join(ends, value);
-                at = next;
-            }
-            ReadIndex::Refused(r) => {
-                return ReadEnds::Refused(r);
-            }
-        }
+        let (end, next) = end(s, at)?;
+        t[used] = end as u64;
+        last = join(last, end);
+        at = next;
         used += 1;
-        left -= 1;
     }
-    ReadEnds::Got {
-        used,
-        ends,
-        next: at,
-    }
+    Ok(((used, last), at))
 }
 
 // An end. Those of a long blob take three bytes each, so where one is over is foreseen: read byte by byte, none waits for the one
 // before it, as it would where eight bytes are taken as a word.
-fn end(s: &[u8], c: Cursor) -> ReadIndex
-    ensures { numbers.index s.now c ≡ index_is result }
+fn end(s: &[u8], c: Cursor) -> Read<u32>
+    ensures { numbers.index s.now c ≡ answer result }
 {
     let at = c.at;
-    if s.len() <= at {
-        return varint::index(s, c);
-    }
-    if s.len() - at < 3 {
+    if s.len() <= at || s.len() - at < 3 {
         return varint::index(s, c);
     }
     let low = s[at];
     let mid = s[at + 1];
     let top = s[at + 2];
-    if low < 128 {
+    if low < 128 || mid < 128 || 128 <= top {
         return varint::index(s, c);
     }
-    if mid < 128 {
-        return varint::index(s, c);
-    }
-    if 128 <= top {
-        return varint::index(s, c);
-    }
-    ReadIndex::Got {
-        value: three(low, mid, top),
-        next: c.advance(3),
-    }
-}
-
-fn three(low: u8, mid: u8, top: u8) -> u32
-    requires le_low { 128 ≤ low }
-    requires le_mid { 128 ≤ mid }
-    requires top_bound { top < 128 }
-    ensures { result ≡ low - 128 + (mid - 128) * 128 + top * 16384 }
-{
-    wide(low - 128) + wide(mid - 128) * 128 + wide(top) * 16384
-}
-
-fn wide(b: u8) -> u32
-    ensures { result ≡ b }
-{
-    b as u32
-}
-
-// One end more.
-fn join(ends: Ends, end: u32) -> Ends
-    ensures { result ≡ joined ends end }
-{
-    Ends {
-        rising: ends.rising && ends.last <= end,
-        last: end,
-    }
-}
-
-// The blob, behind the ends.
-fn names_blob(s: &[u8], c: Cursor, used: usize, ends: Ends) -> ReadNames
-    ensures { names_blob used ends s.now c ≡ names_is s.now result }
-{
-    match fields::run(s, c) {
-        ReadText::Got { span, next } => judged(s, next, used, ends, span),
-        ReadText::Refused(r) => ReadNames::Refused(r),
-    }
-}
-
-// The rule, in its order.
-fn judged(s: &[u8], c: Cursor, used: usize, ends: Ends, blob: Span) -> ReadNames
-    requires { length (text_at s.now blob).bytes ≡ blob.size }
-    ensures { names_judged used ends (text_at s.now blob) s.now c ≡ names_is s.now result }
-{
-    if ends.rising {
-        if ends.last as usize == blob.size {
-            if fields::is_text(s, blob) {
-                return ReadNames::Got {
-                    used,
-                    blob,
-                    next: c,
-                };
-            }
-            return ReadNames::Refused(Refusal::Names(NamesFault::NotUtf8));
-        }
-        return ReadNames::Refused(Refusal::Names(NamesFault::LastEnd));
-    }
-    ReadNames::Refused(Refusal::Names(NamesFault::Falls))
+    let value = u32::from(low - 128) + u32::from(mid - 128) * 128 + u32::from(top) * 16384;
+    Ok((value, c.advance(3)))
 }

@@ -5,11 +5,14 @@ use mathlib.Core.List.{List}
 use native.Mathlib.Omega.{arith}
 use lib.ListN.{length}
 use lib.Seq.{sets}
+use Rattle.std.proofs.Common.{Result, Ok, Err}
+use Rattle.std.specs.Result.{IsErrAnd}
 use Rattle.refusal.specs.declared.Refusal.{Refusal}
 use Rattle.grammar.specs.declared.Cursor.{Cursor}
 use Rattle.grammar.specs.Outcome.{Outcome, got, refused, pure, ◌>>=◌}
 use Rattle.grammar.specs.Number.{index}
 use Rattle.grammar.proofs.Outcome.{got-ne-refused, got-value}
+use Rattle.grammar.proofs.Read.{answer_refused}
 use Rattle.tables.specs.Table.{rows}
 use Rattle.tables.proofs.Answers.{GotList}
 use Rattle.format.specs.declared.records.Case.{Case}
@@ -18,15 +21,14 @@ use Rattle.format.specs.declared.records.Switch.{Switch}
 use Rattle.format.specs.Artifact.{Cased}
 use Rattle.format.specs.File.{list, case, case_range, switch}
 use Rattle.format.specs.Rows.{case_row, range_row}
-use Rattle.switches.specs.declared.ReadSwitch.{ReadSwitch}
 use Rattle.switches.specs.Answers.{used_cases, switch_is, cases_behind, LeftSwitch}
 
 -- a refusal says nothing of the tables
-pub switch-refused : {o : Outcome Cased} {cases ranges : ℕ} {ce cx re rx : List ℕ} {r : Refusal} → o ≡ refused r →
-    LeftSwitch o cases ranges ce cx re rx (ReadSwitch.Refused r)
-switch-refused e =
+pub switch_refused : {o : Outcome Cased} {cases ranges : ℕ} {ce cx re rx : List ℕ} {r : Result ((Switch × (ℕ × ℕ)) × Cursor) Refusal} {why : Refusal} →
+    IsErrAnd r (λ x. x ≡ why) → o ≡ refused why → LeftSwitch o cases ranges ce cx re rx r
+switch_refused {r = r} {why} is_why e =
     record {
-      result = rw e;
+      result = rw e (sym (answer_refused _ r why is_why));
       case_table = λ w next is. absurd (got-ne-refused (sym is ∙ e));
       range_table = λ w next is. absurd (got-ne-refused (sym is ∙ e));
     }
@@ -37,7 +39,7 @@ module _ (case_places range_places tops cased ranged : ℕ) (s : List ℕ) (c : 
       GotList (list 8 case_places (case tops) cased s c) case_row 2 cased ce cx more next →
       GotList (list 9 range_places case_range ranged s next) range_row 4 ranged re rx further last → index s last ≡ got default end →
       LeftSwitch (switch case_places range_places tops (used_cases cased ranged) s c) cased ranged ce cx re rx
-      (ReadSwitch.Got (record { cases = more - cased; ranges = further - ranged; default = default }) more further end)
+      (Ok ((record { cases = more - cased; ranges = further - ranged; default = default }, (more, further)), end))
   unfolding switch ◌>>=◌ pure
   switch-got {more} {further} {default} {next} {last} {end} g h e =
       let a : more - cased ≡ length g.all = omega (arith, g.counts) in
@@ -85,9 +87,9 @@ pub record GotSwitch (o : Outcome Cased) (cases ranges : ℕ) (ce cx re rx : Lis
   pub case_table : cx ≡ sets ce (cases * 2) (rows case_row case_list)
   pub range_table : rx ≡ sets re (ranges * 4) (rows range_row range_list)
 
-module _ {o : Outcome Cased} {cases ranges : ℕ} {ce cx re rx : List ℕ} {answer : ReadSwitch} where
-  pub switch-was-got : LeftSwitch o cases ranges ce cx re rx answer → {whole : Switch} {more further : ℕ} {next : Cursor} →
-      answer ≡ ReadSwitch.Got whole more further next → GotSwitch o cases ranges ce cx re rx whole more further next
+module _ {o : Outcome Cased} {cases ranges : ℕ} {ce cx re rx : List ℕ} {r : Result ((Switch × (ℕ × ℕ)) × Cursor) Refusal} where
+  pub switch-was-got : LeftSwitch o cases ranges ce cx re rx r → {whole : Switch} {more further : ℕ} {next : Cursor} →
+      r ≡ Ok ((whole, (more, further)), next) → GotSwitch o cases ranges ce cx re rx whole more further next
   switch-was-got l {whole} {more} {further} {next} e = go o refl (l.result ∙ ap switch_is e)
     where
       go : (p : Outcome Cased) → o ≡ p → cases_behind (used_cases cases ranges) p ≡ got (whole, used_cases more further) next →
@@ -108,9 +110,9 @@ module _ {o : Outcome Cased} {cases ranges : ℕ} {ce cx re rx : List ℕ} {answ
           }
       go (refused r) is same = absurd (got-ne-refused (sym same))
 
-  pub switch-was-refused : LeftSwitch o cases ranges ce cx re rx answer → {r : Refusal} → answer ≡ ReadSwitch.Refused r → o ≡ refused r
-  switch-was-refused l {r} e = go o refl (l.result ∙ ap switch_is e)
+  pub switch-was-refused : LeftSwitch o cases ranges ce cx re rx r → {why : Refusal} → r ≡ Err why → o ≡ refused why
+  switch-was-refused l {why} e = go o refl (l.result ∙ ap switch_is e)
     where
-      go : (p : Outcome Cased) → o ≡ p → cases_behind (used_cases cases ranges) p ≡ refused r → o ≡ refused r
+      go : (p : Outcome Cased) → o ≡ p → cases_behind (used_cases cases ranges) p ≡ refused why → o ≡ refused why
       go (got w last) is same = absurd (got-ne-refused same)
-      go (refused q) is same = let why : q ≡ r = cc in is ∙ ap (λ k. refused k) why
+      go (refused q) is same = let here : q ≡ why = cc in is ∙ ap (λ k. refused k) here

@@ -1,2 +1,2 @@
--- What the answers of this crate say, and the part of a range that a function of its own reads.
+-- What the answers of this crate say.
 pub mod Answers

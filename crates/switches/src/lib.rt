@@ -8,35 +8,23 @@ ghost use Rattle.switches.specs.Answers.{LeftSwitch, LeftCases, nothing, used_ca
 
 use cases::case_list;
 use format::records::Switch;
-use grammar::Cursor;
+use grammar::{Cursor, Read};
 use ranges::range_list;
 use refusal::Refusal;
-use tables::Listed;
-use varint::{ReadIndex, ReadNumber};
 
 pub mod cases;
 pub mod ranges;
 
-// Switches that were read: the places used of the three tables, and the next place in the file.
+// Switches that were read: the places used of the three tables.
 #[derive(Clone, Copy)]
-pub enum Switched {
-    Got {
-        used: usize,
-        cases: usize,
-        ranges: usize,
-        next: Cursor,
-    },
-    Refused(Refusal),
-}
-
-// A switch whose cases and ranges stand in their tables: the places used behind them, and the next place in the file.
-#[derive(Clone, Copy)]
-pub enum ReadSwitch {
-    Got(Switch, usize, usize, Cursor),
-    Refused(Refusal),
+pub struct Switched {
+    pub used: usize,
+    pub cases: usize,
+    pub ranges: usize,
 }
 
 // The section: a count, then the switches.
+#[tactic(auto, using(grammar::proofs::Read::reads, crate::proofs::Switching::all_refused), unfolding(format::specs::File::switches))]
 pub fn switches(
     s: &[u8],
     c: Cursor,
@@ -44,15 +32,14 @@ pub fn switches(
     t: &mut [u64],
     cases: &mut [u64],
     ranges: &mut [u64],
-) -> Switched
+) -> Read<Switched>
     ensures { LeftCases (definition.switches (length t.old / 3) (length cases.old / 2) (length ranges.old / 4) tops s.now c) t.old t.new cases.old cases.new ranges.old ranges.new result }
 {
-    match varint::uvarint(s, c) {
-        ReadNumber::Got { value, next } => switch_rows(s, next, value, tops, t, cases, ranges),
-        ReadNumber::Refused(r) => Switched::Refused(r),
-    }
+    let (n, c) = varint::uvarint(s, c)?;
+    switch_rows(s, c, n, tops, t, cases, ranges)
 }
 
+// Not the loop of tables, which fills one table: what a switch reads fills two more.
 fn switch_rows(
     s: &[u8],
     c: Cursor,
@@ -61,46 +48,35 @@ fn switch_rows(
     t: &mut [u64],
     cases: &mut [u64],
     ranges: &mut [u64],
-) -> Switched
+) -> Read<Switched>
     ensures { LeftCases (nested count_cases 7 (length t.old / 3) (definition.switch (length cases.old / 2) (length ranges.old / 4) tops) n nothing s.now c) t.old t.new cases.old cases.new ranges.old ranges.new result }
 {
     let places = t.len() / 3;
     let mut at = c;
-    let mut left = n;
     let mut used: usize = 0;
     let mut cased: usize = 0;
     let mut ranged: usize = 0;
-    while 0 < left {
+    for _ in 0..n {
         if places <= used {
-            return Switched::Refused(Refusal::Full { table: 7 });
+            return Err(Refusal::Full { table: 7 });
         }
-        match switch(s, at, tops, cases, cased, ranges, ranged) {
-            ReadSwitch::Got(whole, more, further, next) => {
-                tables::store(
-                    t,
-                    used * 3,
-                    &[whole.cases, whole.ranges, whole.default as u64],
-                );
-                cased = more;
-                ranged = further;
-                at = next;
-            }
-            ReadSwitch::Refused(r) => {
-                return Switched::Refused(r);
-            }
-        }
+        let ((switch, behind), next) = switch(s, at, tops, cases, cased, ranges, ranged)?;
+        let row: [u64; 3] = switch.into();
+        tables::store(t, used * 3, &row);
+        (cased, ranged) = behind;
+        at = next;
         used += 1;
-        left -= 1;
     }
-    Switched::Got {
+    let all = Switched {
         used,
         cases: cased,
         ranges: ranged,
-        next: at,
-    }
+    };
+    Ok((all, at))
 }
 
-// A switch: cases, ranges, a default.
+// A switch: cases, ranges, a default; and the places used of both tables behind it. The tables and the places are lent one by one:
+// a struct of four would be taken apart again in the two calls that are all of it.
 fn switch(
     s: &[u8],
     c: Cursor,
@@ -109,33 +85,16 @@ fn switch(
     cased: usize,
     ranges: &mut [u64],
     ranged: usize,
-) -> ReadSwitch
+) -> Read<(Switch, (usize, usize))>
     ensures { LeftSwitch (definition.switch (length cases.old / 2) (length ranges.old / 4) tops (used_cases cased ranged) s.now c) cased ranged cases.old cases.new ranges.old ranges.new result }
 {
-    match case_list(s, c, tops, cases, cased) {
-        Listed::Got {
-            used: more,
-            next: behind,
-        } => match range_list(s, behind, ranges, ranged) {
-            Listed::Got {
-                used: further,
-                next: last,
-            } => match varint::index(s, last) {
-                ReadIndex::Got {
-                    value: default,
-                    next,
-                } => {
-                    let whole = Switch {
-                        cases: (more - cased) as u64,
-                        ranges: (further - ranged) as u64,
-                        default,
-                    };
-                    ReadSwitch::Got(whole, more, further, next)
-                }
-                ReadIndex::Refused(r) => ReadSwitch::Refused(r),
-            },
-            Listed::Refused(r) => ReadSwitch::Refused(r),
-        },
-        Listed::Refused(r) => ReadSwitch::Refused(r),
-    }
+    let (more, c) = case_list(s, c, tops, cases, cased)?;
+    let (further, c) = range_list(s, c, ranges, ranged)?;
+    let (default, c) = varint::index(s, c)?;
+    let whole = Switch {
+        cases: (more - cased) as u64,
+        ranges: (further - ranged) as u64,
+        default,
+    };
+    Ok(((whole, (more, further)), c))
 }

@@ -2,6 +2,7 @@
 use native.Mathlib.Omega.{arith}
 use lib.ListN.{length}
 use Prim.Native.Nat.{◌-◌, ◌/◌}
+use Rattle.constants.proofs.Keeping.{kept_err}
 use Rattle.constants.proofs.Going.{going-no-key, going-refused, going_more, going_done}
 use Rattle.constants.proofs.Stored.{whole, no_items, no-head, no_place, too-deep, one-level}
 use Rattle.constants.proofs.+constant_items.Goals as goal
@@ -15,39 +16,42 @@ constant-returns-then-t-used t c =
     one-level _ a.levels _ _ _ _ _ _ _ c.if-levels-eq0.false
     (no_place (length a.t.now / 8) (a.levels - 1) a.used a.s.now a.c a.key c.if-t-used.true _ _)
 
-pub constant-returns-in-Got-items : goal.constant-returns-in-Got-items
-constant-returns-in-Got-items t c =
+pub constant-returns-in_err-head : goal.constant-returns-in_err-head
+constant-returns-in_err-head t c =
+    let a = c.args in
+    kept_err
+    (one-level _ a.levels _ _ _ _ _ _ _ c.if-levels-eq0.false
+    (no-head (length a.t.now / 8) (a.levels - 1) a.used a.s.now a.c a.key c.if-t-used.false _ c.in_err-head.ensures _ _))
+    c.from_residual.ensures.1
+
+pub constant-returns-in_err-behind : goal.constant-returns-in_err-behind
+constant-returns-in_err-behind t c =
+    let a = c.args in
+    kept_err
+    (one-level _ a.levels _ _ _ _ _ _ _ c.if-levels-eq0.false
+    (no_items (length a.t.now / 8) (a.levels - 1) a.used a.s.now a.c a.key c.if-t-used.false _ _ c.in_ok-head.ensures a.t.now c.items.new.t _ _ c.in_err-behind.ensures))
+    c.from_residual-in_err-behind.ensures.1
+
+pub constant-returns : goal.constant-returns
+constant-returns t c =
     let a = c.args in
     one-level _ a.levels _ _ _ _ _ _ _ c.if-levels-eq0.false
-    (whole (length a.t.now / 8) (a.levels - 1) a.used a.s.now a.c a.key c.if-t-used.false _ _ (rw c.in-Got.is at c.head_of.ensures) a.t.now c.items.new.t _ _ _ _
-    (rw c.in-Got-items.is at c.items.ensures) c.closed.ensures)
+    (whole (length a.t.now / 8) (a.levels - 1) a.used a.s.now a.c a.key c.if-t-used.false _ _ c.in_ok-head.ensures a.t.now c.items.new.t _ _ _ _
+    c.in_ok-behind.ensures c.closed.ensures)
 
-pub constant-returns-in-Refused-items : goal.constant-returns-in-Refused-items
-constant-returns-in-Refused-items t c =
-    let a = c.args in
-    one-level _ a.levels _ _ _ _ _ _ _ c.if-levels-eq0.false
-    (no_items (length a.t.now / 8) (a.levels - 1) a.used a.s.now a.c a.key c.if-t-used.false _ _ (rw c.in-Got.is at c.head_of.ensures) a.t.now c.items.new.t _ _
-    (rw c.in-Refused-items.is at c.items.ensures))
+pub items-returns-in_err-key : goal.items-returns-in_err-key
+items-returns-in_err-key t c =
+    kept_err (going-no-key c.loop.invariant c.loop-test.true c.in_err-key.ensures _) c.from_residual.ensures.1
 
-pub constant-returns-in-Refused : goal.constant-returns-in-Refused
-constant-returns-in-Refused t c =
-    let a = c.args in
-    one-level _ a.levels _ _ _ _ _ _ _ c.if-levels-eq0.false
-    (no-head (length a.t.now / 8) (a.levels - 1) a.used a.s.now a.c a.key c.if-t-used.false _ (rw c.in-Refused.is at c.head_of.ensures) _ _)
+pub items-returns-in_err-used : goal.items-returns-in_err-used
+items-returns-in_err-used t c =
+    let i = c.loop.invariant in
+    kept_err (going-refused i c.in_ok-key.ensures c.loop-test.true (rw i.same at c.in_err-used.ensures)) c.from_residual-in_err-used.ensures.1
 
-pub items-returns-in-Refused-constant : goal.items-returns-in-Refused-constant
-items-returns-in-Refused-constant t c =
-    let i = c.loop-left.invariant in
-    going-refused i (rw c.in-Got.is at c.item_key.ensures) c.loop-left-test.true (rw (i.same, c.in-Refused-constant.is) at c.constant.ensures)
-
-pub items-returns-in-Refused : goal.items-returns-in-Refused
-items-returns-in-Refused t c =
-    going-no-key c.loop-left.invariant c.loop-left-test.true (rw c.in-Refused.is at c.item_key.ensures) _
-
-pub items-loop-left-preserved : goal.items-loop-left-preserved
-items-loop-left-preserved t c =
-    let i = c.loop-left.invariant in
-    going_more i (rw c.in-Got.is at c.item_key.ensures) c.loop-left-test.true (rw (i.same, c.in-Got-constant.is) at c.constant.ensures) c.constant.auto.t
+pub items-loop-preserved : goal.items-loop-preserved
+items-loop-preserved t c =
+    let i = c.loop.invariant in
+    going_more i c.in_ok-key.ensures c.loop-test.true (rw i.same at c.in_ok-used.ensures) c.constant.auto.t
 
 pub items-returns : goal.items-returns
-items-returns t c = going_done c.loop-left.invariant (omega arith)
+items-returns t c = going_done c.loop.invariant (omega arith)

@@ -11,9 +11,6 @@ decreases-constant l = 2 * l.levels
 abbrev pub decreases-items : goal.decreases-items
 decreases-items l = 2 * l.levels + 1
 
-abbrev pub invariant-items-loop-left : goal.invariant-items-loop-left
-invariant-items-loop-left l =
-    Going (length l.initial.t / 8) l.levels l.keyed l.s l.initial.at l.initial.left l.initial.used l.initial.t l.t l.at l.left l.used
-
-abbrev pub decreases-items-loop-left : goal.decreases-items-loop-left
-decreases-items-loop-left l = l.left
+abbrev pub invariant-items-loop : goal.invariant-items-loop
+invariant-items-loop l =
+    Going (length l.initial.t / 8) l.levels l.keyed l.s l.initial.at l.n l.initial.used l.initial.t l.t l.at l.counter l.used

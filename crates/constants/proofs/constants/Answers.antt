@@ -1,15 +1,15 @@
 -- The count, and then the top constants as a list without keys.
-use Rattle.constants.proofs.Tops.{no-count, tops-refused, tops-got}
+use Rattle.constants.proofs.Tops.{no-count, tops-refused, tops-got, read_err}
 use Rattle.constants.proofs.constants.Goals as goal
 
-pub returns-in-Got-items : goal.returns-in-Got-items
-returns-in-Got-items c =
-    tops-got _ _ _ (rw c.in-Got.is at c.uvarint.ensures) (rw c.in-Got-items.is at c.items.ensures)
+pub returns-in_err-n : goal.returns-in_err-n
+returns-in_err-n c =
+    read_err (no-count _ _ _ c.in_err-n.ensures) c.from_residual.ensures.1
 
-pub returns-in-Refused-items : goal.returns-in-Refused-items
-returns-in-Refused-items c =
-    tops-refused _ _ _ (rw c.in-Got.is at c.uvarint.ensures) (rw c.in-Refused-items.is at c.items.ensures)
+pub returns-in_err-used : goal.returns-in_err-used
+returns-in_err-used c =
+    read_err (tops-refused _ _ _ c.in_ok-n.ensures c.in_err-used.ensures) c.from_residual-in_err-used.ensures.1
 
-pub returns-in-Refused : goal.returns-in-Refused
-returns-in-Refused c =
-    no-count _ _ _ (rw c.in-Refused.is at c.uvarint.ensures)
+pub returns : goal.returns
+returns c =
+    tops-got _ _ _ c.in_ok-n.ensures c.in_ok-used.ensures

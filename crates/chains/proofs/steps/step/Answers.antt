@@ -1,27 +1,21 @@
--- The flags are judged first, then the tag.
-use Rattle.grammar.specs.Outcome.{◌>>=◌, pure, refuse}
-use Rattle.grammar.specs.Combinators.{check}
+-- The flags pass, and the tag decides.
+use Rattle.grammar.specs.Outcome.{◌>>=◌, pure}
+use Rattle.grammar.specs.Combinators.{check, ◌⇒◌∣◌}
 use Rattle.format.specs.File.{step}
-use Rattle.chains.specs.Answers.{step_flagged, index_step, property_step, property_at, method_step, method_at}
-use borrow.Author.Tests.{eq-eqb, ne_eqb}
+use borrow.Author.Tests.{eq-eqb}
 use Rattle.chains.proofs.steps.step.Goals as goal
 
-pub returns-then-flags-mask : goal.returns-then-flags-mask
-unfolding step step_flagged index_step property_step property_at method_step method_at check ◌>>=◌ pure refuse
-returns-then-flags-mask c =
-    rw (c.byte.ensures, c.in-Got.is, c.byte-in-Got.ensures, c.in-Got-byte.is, eq-eqb _ _ c.if-flags-mask.true, c.flagged.ensures)
+pub returns-in-1 : goal.returns-in-1
+unfolding step check ◌⇒◌∣◌ ◌>>=◌ pure
+returns-in-1 c =
+    rw (c.in_ok-tag.ensures, c.in_ok-flags.ensures, eq-eqb _ _ c.if-flags-mask.false, c.in-1.is) c.index_step.ensures
 
-pub returns-else-flags-mask : goal.returns-else-flags-mask
-unfolding step step_flagged index_step property_step property_at method_step method_at check ◌>>=◌ pure refuse
-returns-else-flags-mask c =
-    rw (c.byte.ensures, c.in-Got.is, c.byte-in-Got.ensures, c.in-Got-byte.is, ne_eqb _ _ c.if-flags-mask.false)
+pub returns-in-2 : goal.returns-in-2
+unfolding step check ◌⇒◌∣◌ ◌>>=◌ pure
+returns-in-2 c =
+    rw (c.in_ok-tag.ensures, c.in_ok-flags.ensures, eq-eqb _ _ c.if-flags-mask.false, c.in-2.is) c.property_step.ensures
 
-pub returns-in-Refused-byte : goal.returns-in-Refused-byte
-unfolding step step_flagged index_step property_step property_at method_step method_at check ◌>>=◌ pure refuse
-returns-in-Refused-byte c =
-    rw (c.byte.ensures, c.in-Got.is, c.byte-in-Got.ensures, c.in-Refused-byte.is)
-
-pub returns-in-Refused : goal.returns-in-Refused
-unfolding step step_flagged index_step property_step property_at method_step method_at check ◌>>=◌ pure refuse
-returns-in-Refused c =
-    rw (c.byte.ensures, c.in-Refused.is)
+pub returns-in-3 : goal.returns-in-3
+unfolding step check ◌⇒◌∣◌ ◌>>=◌ pure
+returns-in-3 c =
+    rw (c.in_ok-tag.ensures, c.in_ok-flags.ensures, eq-eqb _ _ c.if-flags-mask.false, c.in-3.is) c.method_step.ensures

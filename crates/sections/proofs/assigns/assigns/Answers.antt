@@ -1,15 +1,12 @@
 -- A count, then the records.
 use Rattle.grammar.specs.Outcome.{◌>>=◌}
-use Rattle.format.specs.File.{list, assigns}
-use Rattle.tables.proofs.Filling.{left-refused}
+use Rattle.format.specs.File.{list, assigns, assign}
+use Rattle.format.specs.Rows.{assign_row}
+use Rattle.tables.proofs.Reading.{left_reads}
+use Rattle.sections.specs.Answers.{assign_at}
 use Rattle.sections.proofs.assigns.assigns.Goals as goal
 
-pub returns-in-Got : goal.returns-in-Got
+pub returns : goal.returns
 unfolding assigns list ◌>>=◌
-returns-in-Got c =
-    rw (c.uvarint.ensures, c.in-Got.is) c.assign_rows.ensures
-
-pub returns-in-Refused : goal.returns-in-Refused
-unfolding assigns list ◌>>=◌
-returns-in-Refused c =
-    left-refused (rw (c.uvarint.ensures, c.in-Refused.is))
+returns c =
+    rw c.in_ok-n.ensures (left_reads assign_row assign (assign_at c.args.s.now) c.args.s.now (λ a words is. is) _ _ _ _ _ c.records.ensures (λ at r post. post.1))

@@ -1,45 +1,24 @@
 -- The loop has read some ends and stored them, and knows of them what the rule asks.
-use native.Mathlib.Omega.{arith}
-use mathlib.Core.Path.{◌∙◌}
-use Rattle.sections.proofs.Ends.{ending-none, ending-full, ending-refused, ending-more, ending-done, ends-refused}
+use mathlib.Core.Path.{refl}
+use Rattle.sections.proofs.Ending.{ending_none, ends_refused, ending_full, ending_stopped, ending_more, ending_done}
 use Rattle.sections.proofs.names.end_rows.Goals as goal
 
-pub loop-left-init : goal.loop-left-init
-loop-left-init c =
-    ending-none _ _ _ _
-
-pub shape_of-t-then-t-used : goal.shape_of-t-then-t-used
-shape_of-t-then-t-used c =
-    c.loop-left.invariant.same
+pub loop-init : goal.loop-init
+loop-init c =
+    ending_none _ _ _ _
 
 pub returns-then-t-used : goal.returns-then-t-used
 returns-then-t-used c =
-    ends-refused (ending-full c.loop-left.invariant c.loop-left-test.true c.if-t-used.true)
+    ends_refused refl (ending_full c.loop.invariant c.loop-test.true c.if-t-used.true)
 
-pub offset_bounds-t-used : goal.offset_bounds-t-used
-offset_bounds-t-used c =
-    omega (arith, c.loop-left.invariant.same, c.well_formed)
+pub returns-in_err-end : goal.returns-in_err-end
+returns-in_err-end c =
+    ends_refused c.from_residual.ensures.1 (ending_stopped c.loop.invariant c.loop-test.true c.if-t-used.false c.in_err-end.ensures)
 
-pub shape_of-t-in-Refused : goal.shape_of-t-in-Refused
-shape_of-t-in-Refused c =
-    c.loop-left.invariant.same
-
-pub returns-in-Refused : goal.returns-in-Refused
-returns-in-Refused c =
-    ends-refused (ending-refused c.loop-left.invariant c.loop-left-test.true c.if-t-used.false (c.end.ensures ∙ rw c.in-Refused.is))
-
-pub overflow_add-used : goal.overflow_add-used
-overflow_add-used c =
-    omega (arith, c.loop-left.invariant.same, c.well_formed)
-
-pub loop-left-preserved : goal.loop-left-preserved
-loop-left-preserved c =
-    rw c.join-ends.ensures (ending-more c.loop-left.invariant c.loop-left-test.true c.if-t-used.false (rw c.in-Got.is at c.end.ensures))
-
-pub shape_of-t : goal.shape_of-t
-shape_of-t c =
-    c.loop-left.invariant.same
+pub loop-preserved : goal.loop-preserved
+loop-preserved c =
+    rw c.join-last.ensures (ending_more c.loop.invariant c.loop-test.true c.if-t-used.false c.in_ok-end.ensures)
 
 pub returns : goal.returns
 returns c =
-    ending-done c.loop-left.invariant (omega arith)
+    ending_done c.loop.invariant c.loop-test.false

@@ -1,15 +1,12 @@
 -- A count, then the records.
 use Rattle.grammar.specs.Outcome.{◌>>=◌}
-use Rattle.format.specs.File.{list, tokens}
-use Rattle.tables.proofs.Filling.{left-refused}
+use Rattle.format.specs.File.{list, tokens, string}
+use Rattle.format.specs.Rows.{token_row}
+use Rattle.tables.specs.Table.{rowed}
+use Rattle.tables.proofs.Rows.{left_records, reads_rows}
 use Rattle.sections.proofs.tokens.tokens.Goals as goal
 
-pub returns-in-Got : goal.returns-in-Got
+pub returns : goal.returns
 unfolding tokens list ◌>>=◌
-returns-in-Got c =
-    rw (c.uvarint.ensures, c.in-Got.is) c.token_rows.ensures
-
-pub returns-in-Refused : goal.returns-in-Refused
-unfolding tokens list ◌>>=◌
-returns-in-Refused c =
-    left-refused (rw (c.uvarint.ensures, c.in-Refused.is))
+returns c =
+    rw c.in_ok-n.ensures (left_records token_row string _ _ _ _ _ _ _ _ _ _ (c.records.ensures c.args.s.now (rowed token_row string) (reads_rows _ c.args.s.now (rowed token_row string) (λ at r post. post.1))))

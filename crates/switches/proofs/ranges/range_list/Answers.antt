@@ -1,15 +1,11 @@
--- A count, then the ranges.
+-- A count, then the records.
 use Rattle.grammar.specs.Outcome.{◌>>=◌}
-use Rattle.format.specs.File.{list}
-use Rattle.tables.proofs.Filling.{left-refused}
+use Rattle.format.specs.File.{list, case_range}
+use Rattle.format.specs.Rows.{range_row}
+use Rattle.tables.proofs.Reading.{left_reads}
 use Rattle.switches.proofs.ranges.range_list.Goals as goal
 
-pub returns-in-Got : goal.returns-in-Got
+pub returns : goal.returns
 unfolding list ◌>>=◌
-returns-in-Got c =
-    rw (c.uvarint.ensures, c.in-Got.is) c.range_rows.ensures
-
-pub returns-in-Refused : goal.returns-in-Refused
-unfolding list ◌>>=◌
-returns-in-Refused c =
-    left-refused (rw (c.uvarint.ensures, c.in-Refused.is))
+returns c =
+    rw c.in_ok-n.ensures (left_reads range_row case_range (λ x. x) c.args.s.now (λ x words is. is) _ _ _ _ _ c.records.ensures (λ at r post. post.1))
