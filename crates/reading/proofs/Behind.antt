@@ -4,18 +4,17 @@ use mathlib.Core.Path.{◌≡◌, refl, sym}
 use mathlib.Core.List.{List, [], ◌∷◌, map, foldl}
 use native.Mathlib.Omega.{arith}
 use lib.ListN.{length, replicate}
-use lib.Seq.{sets}
 use Rattle.grammar.specs.Combinators.{Text}
 use Rattle.tables.specs.Table.{rows}
 use Rattle.tables.proofs.Nesting.{length-rows, words-of}
 use Rattle.tables.proofs.Stores.{front-filled}
 use Rattle.constants.proofs.Ends.{rows_end, constant-end}
 use Rattle.chains.proofs.Words.{chain-width, step-width}
-use Rattle.callables.proofs.Items.{input-wide}
+use Rattle.callables.proofs.Widths.{input-wide}
 use Rattle.format.specs.Artifact as A
 use Rattle.format.specs.Rows as R
 use Rattle.reading.specs.Answer.{outside, filled_all}
-use Rattle.reading.specs.Places.{words_of, front_all}
+use Rattle.reading.specs.Places.{words_of, front_all, stored_all}
 
 -- both counts of switches, each by itself
 cases_of : (used : A.UsedCases) (xs : List A.Cased) → (foldl A.count_cases used xs).cases ≡ foldl (λ n w. n + length w.cases) used.cases xs
@@ -53,12 +52,6 @@ words-used a =
     constants =
         let end = rows_end (R.constant_rows A.levels R.nowhere) (A.behind Text A.levels) (constant-end A.levels R.nowhere) 0 a.constants in
         omega (arith, end)
-
--- the tables with words stored from their fronts, whatever they held
-abbrev pub stored_all : List (List ℕ) → List (List ℕ) → List (List ℕ)
-stored_all [] words = []
-stored_all (t ∷ tables) [] = []
-stored_all (t ∷ tables) (ws ∷ words) = sets t 0 ws ∷ stored_all tables words
 
 pub all-filled : (tables words : List (List ℕ)) → front_all (map length words) (stored_all tables words) ≡ filled_all tables words
 all-filled [] [] = refl

@@ -1,8 +1,4 @@
--- The laws of steps: how one is met, how they join to the whole, and what is left behind the rows.
-pub mod Stepping
-pub mod Joining
-pub mod Telling
-pub mod Whole
-pub mod Final
+-- What each section tells where it was got, what stands behind the rows once it is cleared, and the sections one after the other.
+pub mod Got
 pub mod Behind
-pub mod Answering
+pub mod Whole

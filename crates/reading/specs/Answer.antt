@@ -1,5 +1,6 @@
 -- What the reader answers and leaves: by the definition of the file, for every input.
-use Rattle.std.specs.Prelude.{ℕ, ◌/◌, ◌≡◌, length, replicate, get_or}
+use Rattle.refusal.specs.declared.Refusal.{Refusal}
+use Rattle.std.specs.Prelude.{ℕ, ◌/◌, ◌≡◌, length, replicate, get_or, Result, Ok, Err}
 use mathlib.Core.List.{List, [], ◌∷◌, map, foldl}
 use Rattle.grammar.specs.Outcome.{Outcome, got, refused}
 use Rattle.grammar.specs.Combinators.{Text}
@@ -9,7 +10,6 @@ use Rattle.format.specs.File as definition
 use Rattle.format.specs.Rows.{tables_of}
 use Rattle.reading.specs.Places.{header_of}
 use Rattle.format.specs.declared.answer.Artifact.{Artifact}
-use Rattle.format.specs.declared.answer.Answer.{Answer}
 
 -- the whole rows of a table, by the words of a row
 abbrev pub places : ℕ → List ℕ → ℕ
@@ -62,9 +62,9 @@ outside a =
       };
     }
 
-abbrev pub answer_of : Outcome A.Artifact → Answer
-answer_of (got a last) = Answer.Accepted (outside a)
-answer_of (refused r) = Answer.Refused r
+abbrev pub answer_of : Outcome A.Artifact → Result Artifact Refusal
+answer_of (got a last) = Ok (outside a)
+answer_of (refused r) = Err r
 
 -- the thirteen tables: an acceptance leaves the rows in front and zeros behind, a refusal zeros alone
 abbrev pub filled_all : List (List ℕ) → List (List ℕ) → List (List ℕ)
@@ -77,6 +77,6 @@ tables_after (got a last) tables = filled_all tables (tables_of a)
 tables_after (refused r) tables = map (λ t. replicate (length t) 0) tables
 
 -- the answer and the final content of every table are those of the definition
-pub record Answered (mask : ℕ) (s : List ℕ) (entry exit : List (List ℕ)) (answer : Answer) : Type 0 where
+pub record Answered (mask : ℕ) (s : List ℕ) (entry exit : List (List ℕ)) (answer : Result Artifact Refusal) : Type 0 where
   pub result : answer ≡ answer_of (definition.read (places_of entry) mask s)
   pub tables : exit ≡ tables_after (definition.read (places_of entry) mask s) entry

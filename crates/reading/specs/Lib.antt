@@ -1,4 +1,4 @@
--- Where the reader stands behind each section, and what a step of it promises.
+-- What the reader answers and leaves, and what the sections leave before the tables are cleared.
 pub mod Places
-pub mod Steps
 pub mod Answer
+pub mod Sections

@@ -1,7 +1,6 @@
 #![tactic(auto)]
-// The reader of a whole artifact (`read` of format/read.rs): one step a section, each from where the one before it ended.
+// The reader of a whole artifact (`read` of format/read.rs): its sections, each from where the one before it ended.
 
-pub mod collect;
-pub mod parts;
+mod artifact;
+mod cleared;
 pub mod read;
-pub mod steps;
