@@ -1,5 +1,4 @@
--- Tests that hold, rows that are there, and the first of ten tests that fails.
+-- Tests that hold, rows that are there, and what one look at each table says of the ten rules.
 pub mod Kept
 pub mod Rows
-pub mod First
 pub mod Once

@@ -1,5 +1,5 @@
 -- Counts that fit say that the rows are there.
-use Prim.Native.Nat.{ℕ, ◌+◌, ◌*◌, ◌/◌, ◌≤◌}
+use Prim.Native.Nat.{ℕ, ◌*◌, ◌/◌, ◌≤◌}
 use mathlib.Core.Path.{◌≡◌}
 use mathlib.Core.Bool.{true, ◌&&◌}
 use native.Mathlib.Nat.{mul-one}
@@ -8,9 +8,9 @@ use lib.ListN.{length}
 use lib.Dec.{leb}
 use Rattle.tables.proofs.Fitting.{rows_fit}
 use Rattle.model.specs.Lent.{Lent}
-use Rattle.model.specs.Rules.{fits, counts_fit, lies, outside_lies}
+use Rattle.model.specs.Rules.{fits, counts_fit}
 use Rattle.rules.proofs.Both.{both}
-use Rattle.judging.specs.Standing.{RowsStand, FiveHold}
+use Rattle.judging.specs.Standing.{RowsStand}
 
 stand : (used width size : ℕ) → leb used (size / width) ≡ true → used * width ≤ size
 stand used width size h = rows_fit width used size (leb-true _ _ h)
@@ -49,17 +49,3 @@ rows-stand m e =
       functions = stand u.functions 7 (length m.functions) functions.first;
       parameters = rw (mul-one u.parameters) at (stand u.parameters 1 (length m.parameters) functions.second);
     }
-
--- the position table lies in the text
-pub positions-lie : (m : Lent) →
-    outside_lies m.text m.outside.source m.outside.blob m.outside.code m.outside.positions ≡ true →
-    m.outside.positions.start + m.outside.positions.size ≤ length m.text
-positions-lie m e =
-    let o = m.outside in
-    let behind = both (lies m.text o.source && lies m.text o.blob) _ e in
-    leb-true _ _ (both (lies m.text o.code) _ behind.second).second
-
-pub table-lies : {mask : ℕ} {m : Lent} → FiveHold mask m → m.outside.positions.start + m.outside.positions.size ≤ length m.text
-table-lies {mask} {m} five =
-    let o = m.outside in
-    positions-lie m (both (outside_lies m.text o.source o.blob o.code o.positions) _ five.two).first

@@ -1,2 +1,3 @@
--- What the rules that were tested before say.
+-- What judging answers, and what the rules that were tested before say.
+pub mod Judged
 pub mod Standing

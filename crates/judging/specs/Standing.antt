@@ -1,7 +1,7 @@
 -- What the rules that were tested before say of the tables that are lent.
-use Rattle.std.specs.Prelude.{ℕ, ◌*◌, ◌≤◌, ◌≡◌, true, length}
+use Rattle.std.specs.Prelude.{◌*◌, ◌≤◌, ◌≡◌, true, length}
 use Rattle.model.specs.Lent.{Lent}
-use Rattle.model.specs.Rules.{counts_fit, rule1, rule2, rule3, rule4, rule5}
+use Rattle.model.specs.Rules.{counts_fit}
 
 -- the rows that are used are there
 pub record RowsStand (m : Lent) : Type 0 where
@@ -19,12 +19,3 @@ pub record RowsStand (m : Lent) : Type 0 where
   pub inputs : m.outside.used.inputs * 5 ≤ length m.inputs
   pub functions : m.outside.used.functions * 7 ≤ length m.functions
   pub parameters : m.outside.used.parameters ≤ length m.parameters
-
--- the first five rules hold
-pub record FiveHold (mask : ℕ) (m : Lent) : Type 0 where
-  pub rows : RowsStand m
-  pub one : rule1 m ≡ true
-  pub two : rule2 m ≡ true
-  pub three : rule3 m ≡ true
-  pub four : rule4 m ≡ true
-  pub five : rule5 mask m ≡ true

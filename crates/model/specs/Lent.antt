@@ -1,6 +1,7 @@
 -- What is lent to be written: thirteen tables of words, what stands outside them, and the text that the spans cut. Any words, any
 -- spans and any counts.
-use Rattle.std.specs.Prelude.{ℕ, Bool, true, ◌&&◌, List, [], ◌∷◌, take, drop}
+use Rattle.std.specs.Prelude.{ℕ, Bool, List, take, drop}
+use Rattle.std.specs.List.{list_all}
 use Rattle.grammar.specs.declared.Span.{Span}
 use Rattle.format.specs.declared.answer.Artifact.{Artifact}
 use Rattle.rows.specs.Back.{cut}
@@ -93,5 +94,4 @@ clip text span = take span.size (drop span.start text)
 
 -- a test that holds of each
 abbrev pub every : {X : Type 0} → (X → Bool) → List X → Bool
-every test [] = true
-every test (x ∷ xs) = test x && every test xs
+every = list_all

@@ -5,7 +5,8 @@ use Rattle.std.specs.Prelude.{ℕ, zero, suc, ◌+◌, ◌/◌, ◌^◌, Bool, t
 use Rattle.std.specs.Int.Bits.{bit_and}
 use Rattle.grammar.specs.declared.Span.{Span}
 use Rattle.utf8.specs.Check.{is_utf8}
-use Rattle.position_table.specs.declared.Checked.{Checked}
+use Rattle.refusal.specs.declared.Refusal.{Refusal}
+use Rattle.std.specs.Prelude.{Result, Ok, Err}
 use Rattle.position_table.specs.Table.{checked}
 use Rattle.format.specs.File.{rising, last_end, scalar}
 use Rattle.format.specs.Artifact.{levels}
@@ -280,9 +281,9 @@ rule9 m =
 
 -- ── 10. a position table is empty or checks ──
 
-abbrev pub sound : Checked → Bool
-sound Checked.Sound = true
-sound (Checked.Refused r) = false
+abbrev pub sound : Result Unit Refusal → Bool
+sound (Ok tt) = true
+sound (Err r) = false
 
 abbrev pub sound_table : List ℕ → Span → Bool
 sound_table text span = eqb span.size 0 || sound (checked (clip text span))

@@ -2,7 +2,7 @@
 -- tables mean stand in front of the output, and the rest of it stays. A refusal leaves the output untouched.
 use Rattle.std.specs.Prelude.{ℕ, zero, suc, ◌≡◌, Bool, true, false, List, ◌++◌, length, drop, leb, if◌then◌else◌}
 use Rattle.refusal.specs.declared.Refusal.{Refusal}
-use Rattle.varint.specs.declared.Written.{Written}
+use Rattle.std.specs.Prelude.{Result, Ok, Err}
 use Rattle.written.specs.Meaning.{Meaning}
 use Rattle.written.specs.Put.{put}
 use Rattle.written.specs.Strip.{strip}
@@ -42,21 +42,21 @@ else_eleven (suc rule) holds = suc rule
 unfoldable pub lowest_broken : ℕ → Bool → Lent → ℕ
 lowest_broken mask stripped m = else_eleven (broken_of_ten mask m) (rule11 stripped m)
 
-abbrev pub roomed : List ℕ → List ℕ → Written
-roomed bytes out = if leb (length bytes) (length out) then Written.Done (length bytes) else Written.Refused (Refusal.NoRoom (length bytes))
+abbrev pub roomed : List ℕ → List ℕ → Result ℕ Refusal
+roomed bytes out = if leb (length bytes) (length out) then Ok (length bytes) else Err (Refusal.NoRoom (length bytes))
 
 abbrev pub in_front : List ℕ → List ℕ → List ℕ
 in_front bytes out = if leb (length bytes) (length out) then bytes ++ drop (length bytes) out else out
 
-abbrev pub answered : ℕ → List ℕ → List ℕ → Written
+abbrev pub answered : ℕ → List ℕ → List ℕ → Result ℕ Refusal
 answered zero bytes out = roomed bytes out
-answered (suc rule) bytes out = Written.Refused (Refusal.BadModel (suc rule))
+answered (suc rule) bytes out = Err (Refusal.BadModel (suc rule))
 
 abbrev pub left : ℕ → List ℕ → List ℕ → List ℕ
 left zero bytes out = in_front bytes out
 left (suc rule) bytes out = out
 
 -- for every tables, spans and counts, mask, way and output
-pub record Writes (mask : ℕ) (stripped : Bool) (m : Lent) (entry exit : List ℕ) (answer : Written) : Type 0 where
+pub record Writes (mask : ℕ) (stripped : Bool) (m : Lent) (entry exit : List ℕ) (answer : Result ℕ Refusal) : Type 0 where
   pub result : answer ≡ answered (lowest_broken mask stripped m) (bytes_of stripped m) entry
   pub output : exit ≡ left (lowest_broken mask stripped m) (bytes_of stripped m) entry

@@ -1,3 +1,3 @@
--- Words, what a word taken modulo its width gives back, and the words of a row read one by one.
+-- Words, what a word taken modulo its width gives back, and the rows of a table.
 pub mod Numbers
-pub mod Cuts
+pub mod Chunks

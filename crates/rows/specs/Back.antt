@@ -1,11 +1,11 @@
 -- The way back: the record that the words of a row stand for, in the order of the rows' own definitions. Every row gives a record:
 -- a word is taken modulo the width of what it holds, and a tag that is none of the known ones means the last variant.
-use Rattle.std.specs.Prelude.{ℕ, zero, suc, ◌-◌, ◌%◌, ◌^◌, true, false, not, List, [], ◌∷◌, map, get_or, take, drop, eqb, ℤ, if◌then◌else◌}
+use Rattle.std.specs.Prelude.{ℕ, zero, suc, ◌-◌, ◌%◌, ◌^◌, true, false, not, List, [], ◌∷◌, map, get_or, take, drop, eqb, ℤ, if◌then◌else◌, Option, Some, None}
 use Rattle.std.specs.Int.{w64}
 use Rattle.std.proofs.Common.{to_z}
 use Rattle.grammar.specs.declared.Span.{Span}
 use Rattle.format.specs.declared.records.NameIndex.{NameIndex}
-use Rattle.format.specs.declared.records.OptionalPosition.{OptionalPosition}
+use Rattle.format.specs.declared.records.Position.{Position}
 use Rattle.format.specs.declared.records.Chunk.{Chunk}
 use Rattle.format.specs.declared.records.Assign.{Assign}
 use Rattle.format.specs.declared.records.Root.{Root}
@@ -15,11 +15,9 @@ use Rattle.format.specs.declared.records.Chain.{Chain}
 use Rattle.format.specs.declared.records.Case.{Case}
 use Rattle.format.specs.declared.records.Range.{Range}
 use Rattle.format.specs.declared.records.Switch.{Switch}
-use Rattle.format.specs.declared.records.Literal.{Literal}
 use Rattle.format.specs.declared.records.Input.{Input}
 use Rattle.format.specs.declared.records.Site.{Site}
 use Rattle.format.specs.declared.records.Access.{Access}
-use Rattle.format.specs.declared.records.ThisType.{ThisType}
 use Rattle.format.specs.declared.records.Function.{Function}
 use Rattle.format.specs.File.{placed}
 use Rattle.rows.specs.declared.constants.Kind.{Kind}
@@ -48,7 +46,7 @@ abbrev pub signed : ℕ → ℤ
 signed w = to_z w64 w
 
 -- line and column; line 0 means none, as in the file
-abbrev pub position : ℕ → ℕ → OptionalPosition
+abbrev pub position : ℕ → ℕ → Option Position
 position line column = placed (small line) (small column)
 
 abbrev pub chunk_of : ℕ → ℕ → ℕ → Chunk
@@ -161,8 +159,8 @@ abbrev pub site_of : List ℕ → Site
 site_of row = record { key = index (word row 0); state = index (word row 1); inputs = word row 2 }
 
 -- 11 inputs: entry, end, slots, literal present, literal
-abbrev pub literal_of : ℕ → ℕ → Literal
-literal_of present literal = if eqb present 0 then Literal.Absent else Literal.Present (index literal)
+abbrev pub literal_of : ℕ → ℕ → Option ℕ
+literal_of present literal = if eqb present 0 then None else Some (index literal)
 
 abbrev pub input_of : List ℕ → Input
 input_of row = record { chunk = chunk_of (word row 0) (word row 1) (word row 2); literal = literal_of (word row 3) (word row 4) }
@@ -171,8 +169,8 @@ input_of row = record { chunk = chunk_of (word row 0) (word row 1) (word row 2);
 abbrev pub access_of : ℕ → Access
 access_of w = if eqb w 0 then Access.Public else Access.Private
 
-abbrev pub this_of : ℕ → ThisType
-this_of w = if eqb w 0 then ThisType.Untyped else ThisType.Typed (index (w - 1))
+abbrev pub this_of : ℕ → Option ℕ
+this_of w = if eqb w 0 then None else Some (index (w - 1))
 
 abbrev pub function_of : List ℕ → Function
 function_of row =

@@ -1,12 +1,12 @@
 -- The numbers of a record that fit its row: those that a read gives. Counts may be any, and so may the bits of a float: their words are
 -- taken as they stand.
-use Rattle.std.specs.Prelude.{ℕ, zero, suc, ◌^◌, ◌<◌}
+use Rattle.std.specs.Prelude.{ℕ, zero, suc, ◌^◌, ◌<◌, Option, Some, None}
 use Rattle.std.specs.Int.{w64}
 use Rattle.std.proofs.Common.{SFits}
 use Rattle.grammar.specs.Combinators.{Text, Each}
 use Rattle.tables.specs.Table.{With}
 use Rattle.format.specs.declared.records.NameIndex.{NameIndex}
-use Rattle.format.specs.declared.records.OptionalPosition.{OptionalPosition}
+use Rattle.format.specs.declared.records.Position.{Position}
 use Rattle.format.specs.declared.records.Chunk.{Chunk}
 use Rattle.format.specs.declared.records.Root.{Root}
 use Rattle.format.specs.declared.records.Tail.{Tail}
@@ -15,10 +15,8 @@ use Rattle.format.specs.declared.records.Chain.{Chain}
 use Rattle.format.specs.declared.records.Case.{Case}
 use Rattle.format.specs.declared.records.Range.{Range}
 use Rattle.format.specs.declared.records.Switch.{Switch}
-use Rattle.format.specs.declared.records.Literal.{Literal}
 use Rattle.format.specs.declared.records.Input.{Input}
 use Rattle.format.specs.declared.records.Site.{Site}
-use Rattle.format.specs.declared.records.ThisType.{ThisType}
 use Rattle.format.specs.declared.records.Function.{Function}
 use Rattle.format.specs.Artifact as A
 
@@ -31,9 +29,9 @@ abbrev pub FitsName : NameIndex → Type 0
 FitsName name = FitsBits 32 name.0
 
 -- a position has a line
-abbrev pub FitsPosition : OptionalPosition → Type 0
-FitsPosition OptionalPosition.Absent = Unit
-FitsPosition (OptionalPosition.At line column) = (0 < line) × (FitsBits 16 line × FitsBits 16 column)
+abbrev pub FitsPosition : Option Position → Type 0
+FitsPosition None = Unit
+FitsPosition (Some at) = (0 < at.line) × (FitsBits 16 at.line × FitsBits 16 at.column)
 
 pub record FitsChunk (c : Chunk) : Type 0 where
   pub entry : FitsBits 32 c.entry
@@ -102,17 +100,17 @@ pub record FitsSite (s : Site) : Type 0 where
   pub state : FitsBits 32 s.state
 
 -- FFFFFFFF means none in the file, and is no literal
-abbrev pub FitsLiteral : Literal → Type 0
-FitsLiteral Literal.Absent = Unit
-FitsLiteral (Literal.Present index) = index < 0xFFFFFFFF
+abbrev pub FitsLiteral : Option ℕ → Type 0
+FitsLiteral None = Unit
+FitsLiteral (Some index) = index < 0xFFFFFFFF
 
 pub record FitsInput (i : Input) : Type 0 where
   pub chunk : FitsChunk i.chunk
   pub literal : FitsLiteral i.literal
 
-abbrev pub FitsThis : ThisType → Type 0
-FitsThis ThisType.Untyped = Unit
-FitsThis (ThisType.Typed index) = FitsBits 32 index
+abbrev pub FitsThis : Option ℕ → Type 0
+FitsThis None = Unit
+FitsThis (Some index) = FitsBits 32 index
 
 pub record FitsFunction (f : Function) : Type 0 where
   pub name : FitsName f.name

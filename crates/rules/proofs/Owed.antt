@@ -1,10 +1,11 @@
 -- What is owed of a list of rows: nothing, more than there are, and what a row owes. Assumes nothing.
 use Prim.Native.Nat.{ℕ, zero, suc, ◌+◌, ◌-◌, ◌<◌}
-use mathlib.Core.Path.{◌≡◌, refl, ap}
+use mathlib.Core.Path.{◌≡◌, refl, sym, ap}
 use mathlib.Core.Bool.{false}
 use mathlib.Core.List.{List, [], ◌∷◌}
 use native.Mathlib.Omega.{arith}
 use lib.ListN.{length}
+use lib.Dec.{eqb, eqb-suc-zero}
 use borrow.Author.Tests.{ne_eqb}
 use Rattle.model.specs.Rules.{owns, skip, exactly}
 
@@ -18,6 +19,11 @@ unfolding skip
 skip-short [] owed h = refl
 skip-short (row ∷ rows) zero h = absurd (omega arith)
 skip-short (row ∷ rows) (suc owed) h = skip-short rows (owns row + owed) (omega arith)
+
+pub exactly-none : (rows : List (List ℕ)) → exactly rows 0 ≡ eqb (length rows) 0
+unfolding exactly
+exactly-none [] = refl
+exactly-none (row ∷ rows) = sym (eqb-suc-zero (length rows))
 
 pub exactly-short : (rows : List (List ℕ)) (owed : ℕ) → length rows < owed → exactly rows owed ≡ false
 unfolding exactly

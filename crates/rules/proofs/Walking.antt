@@ -1,73 +1,53 @@
 -- The walk behind some constants: what is left to be skipped comes to what was to be skipped, and both come out even or neither.
 -- Assumes nothing.
-use Prim.Native.Nat.{ℕ, ◌+◌, ◌-◌, ◌*◌, ◌≤◌, ◌<◌}
+use Prim.Native.Nat.{ℕ, suc, ◌+◌, ◌-◌, ◌≤◌, ◌<◌}
 use mathlib.Core.Path.{◌≡◌, refl, sym, ◌∙◌, ap}
-use mathlib.Core.Bool.{Bool, true, false, ◌&&◌}
-use mathlib.Core.List.{List}
+use mathlib.Core.Bool.{true, false}
+use mathlib.Core.List.{List, [], ◌∷◌}
 use native.Mathlib.Omega.{arith}
-use lib.ListN.{length, take, drop}
-use lib.Dec.{eqb}
-use borrow.Author.Tests.{le-leb, lt-leb}
+use lib.ListN.{length}
 use Rattle.model.specs.Rules.{owns, skip, exactly}
-use Rattle.rules.specs.From.{rows_from}
 use Rattle.rules.specs.Walks.{Walk}
-use Rattle.rules.proofs.From.{from_row, from-none, from-length}
-use Rattle.rules.proofs.Owed.{skip-none, skip-short, skip-row, exactly-short, exactly-row}
+use Rattle.rules.proofs.Owed.{skip-none, skip-short, skip-row, exactly-none, exactly-short, exactly-row}
 
-and-true : (b : Bool) → b && true ≡ b
-and-true true = refl
-and-true false = refl
+module _ (rows : List (List ℕ)) (n : ℕ) where
+  pub record Walking (left : List (List ℕ)) (owed : ℕ) : Type 0 where
+    pub enough : owed ≤ length left
+    pub rest : skip rows n ≡ skip left owed
+    pub even : exactly rows n ≡ exactly left owed
 
-module _ (t : List ℕ) (used from n : ℕ) where
-  abbrev rows : ℕ → List (List ℕ)
-  rows k = rows_from 8 t used k
+  pub walking-none : n ≤ length rows → Walking rows n
+  walking-none enough = record { enough = enough; rest = refl; even = refl }
 
-  pub record Walking (k owed : ℕ) : Type 0 where
-    pub rest : skip (rows from) n ≡ skip (rows k) owed
-    pub even : exactly (rows from) n ≡ exactly (rows k) owed
+  -- more is owed than rows are left
+  short : (rest : List (List ℕ)) (owed : ℕ) → skip rows n ≡ skip rest owed → exactly rows n ≡ exactly rest owed → length rest < owed → Walk rows n [] false
+  short rest owed s e few = record { rest = sym (s ∙ skip-short rest owed few); even = sym (e ∙ exactly-short rest owed few) }
 
-  pub walking-none : Walking from n
-  walking-none = record { rest = refl; even = refl }
+  pub walk-short : length rows < n → Walk rows n [] false
+  walk-short few = short rows n refl refl few
 
-  module _ {k owed : ℕ} (w : Walking k owed) where
-    -- nothing is owed, and a row is left
-    pub walking-paid : k < used → owed ≡ 0 → Walk t used from n (record { at = k; even = true })
-    unfolding exactly
-    walking-paid more paid =
-        let row = from_row 8 t used k more in
-        record {
-          rest = sym (w.rest ∙ ap (skip (rows k)) paid ∙ skip-none (rows k));
-          even = lt-leb used k more ∙ sym (w.even ∙ rw (paid, row));
-        }
+  module _ {rest : List (List ℕ)} {owed : ℕ} (w : Walking rest owed) where
+    pub walking-paid : owed ≡ 0 → Walk rows n rest true
+    walking-paid paid =
+        record { rest = sym (w.rest ∙ ap (skip rest) paid ∙ skip-none rest); even = sym (w.even ∙ ap (exactly rest) paid ∙ exactly-none rest) }
 
-    -- more is owed than rows are left
-    pub walking-short : used - k < owed → Walk t used from n (record { at = used; even = false })
-    walking-short short =
-        let few : length (rows k) < owed = rw (from-length 8 t used k) short in
-        record {
-          rest = from-none 8 t used used (omega arith) ∙ sym (w.rest ∙ skip-short (rows k) owed few);
-          even = sym (w.even ∙ exactly-short (rows k) owed few);
-        }
-
-    pub walking-end : used ≤ k → Walk t used from n (record { at = k; even = eqb owed 0 })
-    unfolding skip exactly
-    walking-end h =
-        let none = from-none 8 t used k h in
-        record {
-          rest = none ∙ sym (w.rest ∙ rw none);
-          even = rw (le-leb used k h) (and-true (eqb owed 0) ∙ sym (w.even ∙ rw none));
-        }
+    pub walking-end : length rest ≡ 0 → Walk rows n rest true
+    walking-end none = walking-paid (omega (arith, none, w.enough))
 
     -- a row pays for itself and owes its items
-    pub walking-row : k < used → 0 < owed → {more : ℕ} → more ≡ owns (take 8 (drop (k * 8) t)) → Walking (k + 1) (owed - 1 + more)
-    walking-row here some {more} is =
-        let row = from_row 8 t used k here in
-        record {
-          rest = w.rest ∙ rw (row, is) (skip-row (take 8 (drop (k * 8) t)) (rows (k + 1)) owed some);
-          even = w.even ∙ rw (row, is) (exactly-row (take 8 (drop (k * 8) t)) (rows (k + 1)) owed some);
-        }
+    module _ {row : List ℕ} {behind : List (List ℕ)} (is : rest ≡ row ∷ behind) (some : owed ≡ 0 → ⊥) {more : ℕ} (owes : more ≡ owns row) where
+      one : length rest ≡ suc (length behind)
+      one = ap (λ (rows : List (List ℕ)). length rows) is
 
-  -- a row owes more than is left
-  pub walking-greedy : {k owed : ℕ} → Walking k owed → k < used → 0 < owed → {more : ℕ} → more ≡ owns (take 8 (drop (k * 8) t)) → used - k < more →
-      Walk t used from n (record { at = used; even = false })
-  walking-greedy w here some is much = walking-short (walking-row w here some is) (omega arith)
+      skips : skip rows n ≡ skip behind (owed - 1 + more)
+      skips = w.rest ∙ rw (is, owes) (skip-row row behind owed (omega (arith, some)))
+
+      evens : exactly rows n ≡ exactly behind (owed - 1 + more)
+      evens = w.even ∙ rw (is, owes) (exactly-row row behind owed (omega (arith, some)))
+
+      pub walking-row : more ≤ length rest - owed → Walking behind (owed - 1 + more)
+      walking-row fits = record { enough = omega (arith, fits, one, some, w.enough); rest = skips; even = evens }
+
+      -- it owes more than is left
+      pub walking-greedy : length rest - owed < more → Walk rows n [] false
+      walking-greedy much = short behind (owed - 1 + more) skips evens (omega (arith, much, one, some, w.enough))

@@ -1,5 +1,4 @@
--- What each row is asked by the rule that is told, the rows from a place on, and what a walk over them answers.
-pub mod Keeps
+-- Words that fit whatever a tag is, what rows are asked at once, and what a walk over them answers.
+pub mod Fits
 pub mod Once
-pub mod From
 pub mod Walks

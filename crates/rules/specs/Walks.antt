@@ -1,23 +1,18 @@
--- What a walk over the constants' rows answers: a place says which rows are left.
-use Rattle.std.specs.Prelude.{ℕ, ◌+◌, ◌*◌, ◌≡◌, ◌&&◌, List, [], take, drop, leb, eqb, if◌then◌else◌}
-use Rattle.rows.specs.Back.{word}
-use Rattle.model.specs.Rules.{tag, skip, entries, exactly, Behind, behind, too_deep}
-use Rattle.rules.specs.declared.trees.Walked.{Walked}
-use Rattle.rules.specs.declared.trees.Reached.{Reached}
-use Rattle.rules.specs.From.{rows_from}
+-- What a walk over the constants' rows answers, and what a test of rows does that is given to one.
+use Rattle.std.specs.Prelude.{ℕ, ◌≡◌, ◌&&◌, Bool, List, length, eqb, Option, Some, None}
+use denote.Ref.{Bor}
+use Rattle.model.specs.Rules.{skip, exactly, Behind, behind, too_deep}
 
 -- behind n constants and all that they own; the rows are used exactly where the walk comes out even at their end
-pub record Walk (t : List ℕ) (used from n : ℕ) (w : Walked) : Type 0 where
-  pub rest : rows_from 8 t used w.at ≡ skip (rows_from 8 t used from) n
-  pub even : w.even && leb used w.at ≡ exactly (rows_from 8 t used from) n
-
--- the entries of the row at a place, if it is a map
-abbrev pub entries_at : List ℕ → (used place : ℕ) → List (List ℕ)
-entries_at t used place =
-    let row = take 8 (drop (place * 8) t) in
-    if eqb (tag row) 0x08 then entries (word row 5) (rows_from 8 t used (place + 1)) else []
+pub record Walk (rows : List (List ℕ)) (n : ℕ) (left : List (List ℕ)) (paid : Bool) : Type 0 where
+  pub rest : left ≡ skip rows n
+  pub even : paid && eqb (length left) 0 ≡ exactly rows n
 
 -- behind some constants, if the levels do for them
-abbrev pub reached_is : List ℕ → (used : ℕ) → Reached → Behind
-reached_is t used (Reached.At place) = behind (rows_from 8 t used place)
-reached_is t used Reached.TooDeep = too_deep
+abbrev pub reached : Option (Bor (List (List ℕ))) → Behind
+reached (Some rest) = behind rest.now
+reached None = too_deep
+
+-- the test of rows that a closure decides, by what its calls answer
+abbrev pub Decides : {R : Type 0} → (Bor R → Bool → Type 0) → (R → Bool) → Type 0
+Decides {R} post test = (row : Bor R) (b : Bool) → post row b → b ≡ test row.now

@@ -1,55 +1,27 @@
 // Rule 1, its first half: the places of each table are enough for the rows that are said to be used.
-ghost use Rattle.std.specs.Prelude.{◌≡◌, ◌/◌, ◌<◌, leb, ◌&&◌};
-ghost use Rattle.rules.specs.Keeps.{switch_counts, counts_of};
+ghost use Rattle.std.specs.Prelude.{◌≡◌, ◌/◌, ◌<◌, leb};
+ghost use Rattle.model.specs.Rules as definition;
+ghost use Rattle.model.specs.Told.{lent_is};
 
-use crate::words::both;
-use format::answer::Used;
+use model::Lent;
 
-pub fn fits(used: usize, width: usize, words: usize) -> bool
+fn fits(used: usize, width: usize, words: usize) -> bool
     requires { 0 < width }
     ensures { result ≡ leb used (words / width) }
 {
     used <= words / width
 }
 
-// Two tables at once, the words of a row of each and how many words it has.
-fn pair_fits(
-    used: usize,
-    width: usize,
-    words: usize,
-    others: usize,
-    wide: usize,
-    size: usize,
-) -> bool
-    requires width_nonzero { 0 < width }
-    requires wide_nonzero { 0 < wide }
-    ensures { result ≡ leb used (words / width) && leb others (size / wide) }
+pub fn counts_fit(l: &Lent) -> bool
+    ensures { result ≡ definition.counts_fit (lent_is l.now) }
 {
-    both(fits(used, width, words), fits(others, wide, size))
-}
-
-fn switches_fit(u: Used, words: [usize; 13]) -> bool
-    ensures { result ≡ switch_counts u words }
-{
-    let items = pair_fits(u.cases, 2, words[7], u.ranges, 4, words[8]);
-    both(fits(u.switches, 3, words[6]), items)
-}
-
-// The words of the thirteen tables, in their order.
-pub fn counts_fit(u: Used, words: [usize; 13]) -> bool
-    ensures { result ≡ counts_of u words }
-{
-    let first = both(
-        pair_fits(u.names, 1, words[0], u.constants, 8, words[1]),
-        pair_fits(u.tokens, 2, words[2], u.assigns, 6, words[3]),
-    );
-    let second = both(
-        pair_fits(u.chains, 9, words[4], u.steps, 11, words[5]),
-        switches_fit(u, words),
-    );
-    let third = both(
-        pair_fits(u.customs, 3, words[9], u.inputs, 5, words[10]),
-        pair_fits(u.functions, 7, words[11], u.parameters, 1, words[12]),
-    );
-    both(first, both(second, third))
+    let u = l.outside.used;
+    let first = (fits(u.names, 1, l.names.len()) & fits(u.constants, 8, l.constants.len()))
+        & (fits(u.tokens, 2, l.tokens.len()) & fits(u.assigns, 6, l.assigns.len()));
+    let links = fits(u.chains, 9, l.chains.len()) & fits(u.steps, 11, l.steps.len());
+    let switches = fits(u.switches, 3, l.switches.len())
+        & (fits(u.cases, 2, l.cases.len()) & fits(u.ranges, 4, l.ranges.len()));
+    let callables = (fits(u.customs, 3, l.customs.len()) & fits(u.inputs, 5, l.inputs.len()))
+        & (fits(u.functions, 7, l.functions.len()) & fits(u.parameters, 1, l.parameters.len()));
+    first & ((links & switches) & callables)
 }

@@ -4,6 +4,7 @@
 pub mod counts;
 pub mod each;
 pub mod names;
+pub mod once;
 pub mod positions;
 pub mod records;
 pub mod shares;

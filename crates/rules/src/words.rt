@@ -1,22 +1,7 @@
-// Tests of single words, and of yes and no.
-ghost use Rattle.std.specs.Prelude.{◌≡◌, ◌&&◌, ◌||◌};
+// Tests of single words. They are joined by `&` and `|`, which judge both sides: what a test costs is less than a branch that cannot be
+// foreseen.
+ghost use Rattle.std.specs.Prelude.{◌≡◌};
 ghost use Rattle.model.specs.Rules as definition;
-
-// In the place of a rule's number: all the rules that look at a table, so that it is looked at once.
-pub const ALL: u8 = 0;
-
-// Both are judged before: what a test costs is less than a branch that cannot be foreseen.
-pub fn both(a: bool, b: bool) -> bool
-    ensures { result ≡ a && b }
-{
-    if a { b } else { false }
-}
-
-pub fn either(a: bool, b: bool) -> bool
-    ensures { result ≡ a || b }
-{
-    if a { true } else { b }
-}
 
 pub fn fits_8(w: u64) -> bool
     ensures { result ≡ definition.bits 8 w }
@@ -46,20 +31,17 @@ pub fn yes_no(w: u64) -> bool
 pub fn among(most: u64, tag: u64) -> bool
     ensures { result ≡ definition.among most tag }
 {
-    both(1 <= tag, tag <= most)
+    (1 <= tag) & (tag <= most)
 }
 
 pub fn sound_position(line: u64, column: u64) -> bool
     ensures { result ≡ definition.sound_position line column }
 {
-    both(
-        fits_16(line),
-        both(fits_16(column), either(line != 0, column == 0)),
-    )
+    fits_16(line) & (fits_16(column) & ((line != 0) | (column == 0)))
 }
 
 pub fn sound_chunk(entry: u64, end: u64, slots: u64) -> bool
     ensures { result ≡ definition.sound_chunk entry end slots }
 {
-    both(fits_32(entry), both(fits_32(end), fits_16(slots)))
+    fits_32(entry) & (fits_32(end) & fits_16(slots))
 }

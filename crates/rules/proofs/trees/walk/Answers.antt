@@ -1,30 +1,21 @@
 -- The walk stands by its law (Walking).
-use mathlib.Core.Path.{◌∙◌, ap}
-use native.Mathlib.Omega.{arith}
-use Rattle.model.specs.Rules.{owns}
-use Rattle.rules.proofs.Walking.{walking-none, walking-paid, walking-short, walking-greedy, walking-row, walking-end}
+use Rattle.rules.proofs.Walking.{walk-short, walking-none, walking-paid, walking-end, walking-greedy, walking-row}
 use Rattle.rules.proofs.trees.walk.Goals as goal
 
-pub loop-k-init : goal.loop-k-init
-loop-k-init c =
-    walking-none _ _ _ _
+pub returns-then-rows-n : goal.returns-then-rows-n
+returns-then-rows-n c = walk-short _ _ c.if-rows-n.true
+
+pub loop-row-init : goal.loop-row-init
+loop-row-init c = walking-none _ _ c.if-rows-n.false
 
 pub returns-then-owed-eq0 : goal.returns-then-owed-eq0
-returns-then-owed-eq0 c =
-    walking-paid _ _ _ _ c.loop-k.invariant (omega arith) (omega arith)
+returns-then-owed-eq0 c = walking-paid _ _ c.loop-row.invariant c.if-owed-eq0.true
 
-pub returns-then-left-owed : goal.returns-then-left-owed
-returns-then-left-owed c =
-    walking-short _ _ _ _ c.loop-k.invariant (omega arith)
+pub returns-then-rest-owed : goal.returns-then-rest-owed
+returns-then-rest-owed c = walking-greedy _ _ c.loop-row.invariant c.in-Some.ensures.cases.0 c.if-owed-eq0.false c.owns-more.ensures c.if-rest-owed.true
 
-pub returns-then-left-more : goal.returns-then-left-more
-returns-then-left-more c =
-    walking-greedy _ _ _ _ c.loop-k.invariant (omega arith) (omega arith) (c.owns-more.ensures ∙ ap owns c.of_eight.ensures) (omega arith)
-
-pub loop-k-preserved : goal.loop-k-preserved
-loop-k-preserved c =
-    walking-row _ _ _ _ c.loop-k.invariant (omega arith) (omega arith) (c.owns-more.ensures ∙ ap owns c.of_eight.ensures)
+pub loop-row-preserved : goal.loop-row-preserved
+loop-row-preserved c = walking-row _ _ c.loop-row.invariant c.in-Some.ensures.cases.0 c.if-owed-eq0.false c.owns-more.ensures c.if-rest-owed.false
 
 pub returns : goal.returns
-returns c =
-    walking-end _ _ _ _ c.loop-k.invariant (omega arith)
+returns c = walking-end _ _ c.loop-row.invariant c.in_default.ensures.cases

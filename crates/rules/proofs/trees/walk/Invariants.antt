@@ -1,10 +1,10 @@
 -- The walk stands by its law (Walking).
-use Prim.Native.Nat.{◌-◌}
+use Rattle.std.proofs.Common.{length}
 use Rattle.rules.proofs.Walking.{Walking}
 use Rattle.rules.proofs.trees.walk.Given as goal
 
-abbrev pub invariant-loop-k : goal.invariant-loop-k
-invariant-loop-k l = Walking l.t l.used l.from l.n l.k l.owed
+abbrev pub invariant-loop-row : goal.invariant-loop-row
+invariant-loop-row l = Walking l.rows l.n l.rest l.owed
 
-abbrev pub decreases-loop-k : goal.decreases-loop-k
-decreases-loop-k l = l.used - l.k
+abbrev pub decreases-loop-row : goal.decreases-loop-row
+decreases-loop-row l = length l.rest

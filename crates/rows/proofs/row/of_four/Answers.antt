@@ -1,7 +1,0 @@
--- Each word in its place.
-use Rattle.rows.proofs.Cuts.{row_is_lem}
-use Rattle.rows.proofs.row.of_four.Goals as goal
-
-pub returns : goal.returns
-returns c =
-    row_is_lem c.args.t.now c.args.at 3 c.requires
