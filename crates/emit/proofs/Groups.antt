@@ -8,13 +8,12 @@ use native.Mathlib.Nat.{pow-succ'}
 use native.Mathlib.Omega.{arith}
 use borrow.Author.Tests.{le-leb, lt-leb, ltb-true, ltb-false}
 use lib.Dec.{leb, ltb}
-use lib.ListN.{length, set, take, drop, take-append-drop, length-take}
-use lib.Seq.{sets}
+use lib.ListN.{length, take, drop, take-append-drop, length-take}
 use Rattle.grammar.specs.Number.{shortest, shortest_in}
 use Rattle.varint.proofs.Shortest.{more-group, last-group}
-use Rattle.tables.proofs.Stores.{sets-append}
 use Rattle.emit.specs.Puts.{Puts}
-use Rattle.emit.proofs.Laws.{puts-wide}
+use borrow.Rule.Slice.PartMut.{put_mid}
+use Rattle.emit.proofs.Laws.{puts-part}
 
 abbrev pub group : ℕ → ℕ
 group v = v % 128 + (if leb 128 v then 128 else 0)
@@ -55,14 +54,11 @@ pub five-few : (v : ℕ) → v < 34359738368 → length (shortest v) ≤ 5
 unfolding shortest
 five-few v h = omega (arith, sym (ap length (front 4 9 v (omega arith) (omega arith))) ∙ length-take (length (shortest v)) (five_of v))
 
-pub five-puts : (v : ℕ) {e m : List ℕ} {at next : ℕ} → v < 34359738368 → at + 5 ≤ length e →
-    m ≡ sets e at (group v ∷ group (v / 128) ∷ group (v / 128 / 128) ∷ group (v / 128 / 128 / 128) ∷ []) → next ≡ at + length (shortest v) →
-    Puts (shortest v) e at (set m (at + 4) (group (v / 128 / 128 / 128 / 128))) next
-five-puts v {e} {m} {at} h room first here =
-    let all = five-all v h in
-    puts-wide (shortest v) (drop (length (shortest v)) (five_of v))
-    (rw first (sym (sets-append e at (group v ∷ group (v / 128) ∷ group (v / 128 / 128) ∷ group (v / 128 / 128 / 128) ∷ []) (group (v / 128 / 128 / 128 / 128) ∷ [])) ∙ ap (sets e at) all))
-    (λ _. rw (← all) room) here
+pub five-puts : (v : ℕ) {e part : List ℕ} {at k next : ℕ} → v < 34359738368 →
+    part ≡ group v ∷ group (v / 128) ∷ group (v / 128 / 128) ∷ group (v / 128 / 128 / 128) ∷ group (v / 128 / 128 / 128 / 128) ∷ [] → k ≡ 5 →
+    at + 5 ≤ length e → next ≡ at + length (shortest v) → Puts (shortest v) e at (put_mid at k e part) next
+five-puts v h is five room here =
+    puts-part (shortest v) (drop (length (shortest v)) (five_of v)) (is ∙ five-all v h) (ap length is ∙ sym five) (omega arith) here
 
 -- there is always one
 pub some_bytes : (v : ℕ) → 0 < length (shortest v)

@@ -4,7 +4,10 @@ use mathlib.Core.Path.{◌≡◌, refl, sym, ◌∙◌, ap}
 use mathlib.Core.List.{List, [], ◌++◌, append_assoc, append-nil}
 use native.Mathlib.Nat.{add-zero}
 use native.Mathlib.Omega.{arith}
-use lib.ListN.{length, take, drop, length-append}
+use lib.ListN.{length, take, drop, length-append, length-drop}
+use Rattle.std.proofs.Common.{take-take}
+use Rattle.std.proofs.lemmas.Slice.{take-put_mid}
+use borrow.Rule.Slice.PartMut.{put_mid, same_len_mid}
 use lib.Seq.{sets, sets-eq, length-sets, length-take-le, take_at}
 use Rattle.emit.specs.Puts.{Puts}
 
@@ -16,28 +19,33 @@ puts_none {e} {at} =
 pub puts-nowhere : {bytes e : List ℕ} {at next : ℕ} → length e < at + length bytes → Puts bytes e at e next
 puts-nowhere full = record { kept = refl; next = λ fits. absurd (omega arith); stored = λ fits. absurd (omega arith) }
 
--- the bytes are stored, and others behind them
-pub puts-wide : (bytes more : List ℕ) {e exit : List ℕ} {at next : ℕ} → exit ≡ sets e at (bytes ++ more) →
-    (at + length bytes ≤ length e → at + length (bytes ++ more) ≤ length e) → next ≡ at + length bytes → Puts bytes e at exit next
-puts-wide bytes more {e} {exit} {at} is wide here =
+-- the bytes are stored
+pub puts-stored : {bytes e exit : List ℕ} {at next : ℕ} → exit ≡ sets e at bytes → next ≡ at + length bytes → Puts bytes e at exit next
+puts-stored {bytes} {e} {exit} {at} is here =
     record {
-      kept = ap length is ∙ length-sets e at (bytes ++ more);
+      kept = ap length is ∙ length-sets e at bytes;
       next = λ _. here;
-      stored = λ fits. ap (take (at + length bytes)) (is ∙ sets-eq (bytes ++ more) e at (wide fits)) ∙ front fits;
+      stored = λ fits. ap (take (at + length bytes)) (is ∙ sets-eq bytes e at fits)
+          ∙ take_at (take at e ++ bytes) (drop (at + length bytes) e) (at + length bytes) (front fits);
     }
   where
-    rest : List ℕ
-    rest = drop (at + length (bytes ++ more)) e
+    front : at + length bytes ≤ length e → length (take at e ++ bytes) ≡ at + length bytes
+    front fits = length-append (take at e) bytes ∙ ap (λ (k : ℕ). k + length bytes) (length-take-le at e (omega arith))
 
-    front : at + length bytes ≤ length e → take (at + length bytes) (take at e ++ (bytes ++ more) ++ rest) ≡ take at e ++ bytes
-    front fits =
-        ap (take (at + length bytes)) (ap (λ (l : List ℕ). l ++ rest) (sym (append_assoc (take at e) bytes more)) ∙ append_assoc (take at e ++ bytes) more rest)
-        ∙ take_at (take at e ++ bytes) (more ++ rest) (at + length bytes)
-        (length-append (take at e) bytes ∙ ap (λ (k : ℕ). k + length bytes) (length-take-le at e (omega arith)))
-
--- the bytes alone are stored
-pub puts-stored : {bytes e exit : List ℕ} {at next : ℕ} → exit ≡ sets e at bytes → next ≡ at + length bytes → Puts bytes e at exit next
-puts-stored {bytes} is here = puts-wide bytes [] (rw (append-nil bytes) is) (λ fits. rw (append-nil bytes) fits) here
+-- a part is stored, and the bytes stand in front of it
+pub puts-part : (bytes more : List ℕ) {e part : List ℕ} {at k next : ℕ} → part ≡ bytes ++ more → length part ≡ k → at + k ≤ length e →
+    next ≡ at + length bytes → Puts bytes e at (put_mid at k e part) next
+puts-part bytes more {e} {part} {at} {k} is long fits here =
+    let inside : at + length bytes ≤ at + k = omega (arith, ap length is, length-append bytes more) in
+    let front : length (take at e ++ bytes) ≡ at + length bytes = length-append (take at e) bytes ∙ ap (λ (n : ℕ). n + length bytes) (length-take-le at e (omega arith)) in
+    let all : take (at + k) (put_mid at k e part) ≡ (take at e ++ bytes) ++ more =
+    take-put_mid at k e part (at + k) (omega arith) (omega arith) ∙ ap (λ (l : List ℕ). take at e ++ l) is ∙ sym (append_assoc (take at e) bytes more) in
+    record {
+      kept = same_len_mid at k e part (omega (arith, length-take-le k (drop at e) (omega (arith, length-drop at e))));
+      next = λ _. here;
+      stored = λ _. sym (take-take (at + length bytes) (at + k) (put_mid at k e part) inside) ∙ ap (take (at + length bytes)) all
+          ∙ take_at (take at e ++ bytes) more (at + length bytes) front;
+    }
 
 pub puts-same : {a b e x : List ℕ} {at next : ℕ} → a ≡ b → Puts a e at x next → Puts b e at x next
 puts-same same p = rw (← same) p

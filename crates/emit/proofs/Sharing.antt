@@ -1,7 +1,8 @@
 -- The loop over records that own shares of an items' table.
 use Prim.Native.Nat.{ℕ, zero, suc, ◌+◌, ◌*◌, ◌-◌, ◌≤◌, ◌<◌}
 use mathlib.Core.Path.{◌≡◌, refl, sym, ◌∙◌, ap}
-use mathlib.Core.List.{List, [], ◌∷◌}
+use mathlib.Core.List.{List, [], ◌∷◌, map}
+use Rattle.std.proofs.lemmas.List.{map-id, take-map, drop-map}
 use native.Mathlib.Nat.{add_comm, add-mul, one-mul, zero-mul, suc-mul, le_trans, mul-le-mul_right}
 use native.Mathlib.Omega.{arith}
 use lib.ListN.{length, take, drop}
@@ -14,9 +15,9 @@ use Rattle.written.specs.Put.{put_list}
 use Rattle.model.specs.Rules.{total}
 use Rattle.model.specs.Tables.{shared}
 use Rattle.emit.specs.Puts.{Puts}
-use Rattle.emit.specs.Shares.{owned, SharesFit, shares_of}
+use Rattle.emit.specs.Shares.{owned, SharesFit}
 use Rattle.emit.proofs.Laws.{Onward, onward-none, onward-more, onward-done}
-use Rattle.emit.proofs.Listing.{between, between_more, between_none, between-all, length-records, counted}
+use Rattle.emit.proofs.Listing.{between, between_more, between_none, rows, rows-all, length-cut, counted, list-map}
 
 -- ── shares of the items ──
 
@@ -62,74 +63,83 @@ owed_more i w t j used h =
 -- ── the loop ──
 
 -- the records before j are put, with the items before `from`
-pub record Sharing {X Y : Type 0} (put : With X Y → List ℕ) (i : ℕ) (count : X → ℕ) (w : ℕ) (of : List ℕ → X) (iw : ℕ) (item_of : List ℕ → Y)
-    (t : List ℕ) (used : ℕ) (items all e : List ℕ) (at j from : ℕ) (out : List ℕ) (place : ℕ) : Type 0 where
+pub record Sharing (put : With (List ℕ) (List ℕ) → List ℕ) (i w iw : ℕ) (t : List ℕ) (used : ℕ) (items all e : List ℕ) (at j from : ℕ) (out : List ℕ) (place : ℕ) : Type 0 where
   pub fit : SharesFit i w used t iw items
   pub few : j ≤ used
   pub own : from + owed i w t j used ≡ owned i w used t
-  pub going : Onward all e at (put_all put (shared count (between w of t j used) (between iw item_of items from (owned i w used t)))) out place
+  pub going : Onward all e at (put_all put (shared (λ row. word row i) (rows w t j used) (rows iw items from (owned i w used t)))) out place
 
-module _ {X Y : Type 0} {put : With X Y → List ℕ} {i : ℕ} {count : X → ℕ} {w : ℕ} {of : List ℕ → X} {iw : ℕ} {item_of : List ℕ → Y}
-    {t : List ℕ} {used : ℕ} {items m : List ℕ} {mid : ℕ} where
-  pub sharing-none : SharesFit i w used t iw items →
-      Sharing put i count w of iw item_of t used items (put_all put (shares_of i count w of used t iw item_of items)) m mid 0 0 m mid
-  sharing-none fit =
-      record {
-        fit = fit;
-        few = omega arith;
-        own = rw (owed_all i w t used) (omega arith);
-        going = rw (between-all w of t used, between-all iw item_of items (owned i w used t)) onward-none;
-      }
+pub sharing-none : {put : With (List ℕ) (List ℕ) → List ℕ} {i w iw : ℕ} {t : List ℕ} {used : ℕ} {items m : List ℕ} {mid : ℕ} → SharesFit i w used t iw items →
+    Sharing put i w iw t used items (put_all put (shared (λ row. word row i) (cut w used t) (cut iw (owned i w used t) items))) m mid 0 0 m mid
+sharing-none {i = i} {w = w} {iw = iw} {t = t} {used = used} {items = items} fit =
+    record {
+      fit = fit;
+      few = omega arith;
+      own = rw (owed_all i w t used) (omega arith);
+      going = rw (rows-all w t used, rows-all iw items (owned i w used t)) onward-none;
+    }
 
-module _ {X Y : Type 0} {put : With X Y → List ℕ} {i : ℕ} {count : X → ℕ} {w : ℕ} {of : List ℕ → X} {iw : ℕ} {item_of : List ℕ → Y}
-    {t : List ℕ} {used : ℕ} {items all e : List ℕ} {at j from : ℕ} {out : List ℕ} {place : ℕ}
-    (g : Sharing put i count w of iw item_of t used items all e at j from out place) (counts : (row : List ℕ) → count (of row) ≡ word row i) where
+module _ {put : With (List ℕ) (List ℕ) → List ℕ} {i w iw : ℕ} {t : List ℕ} {used : ℕ} {items all e : List ℕ} {at j from : ℕ} {out : List ℕ} {place : ℕ}
+    (g : Sharing put i w iw t used items all e at j from out place) where
   abbrev row : List ℕ
   row = take w (drop (j * w) t)
 
-  -- the items of the next record are there
-  pub sharing-owned : j < used → {y : X} → y ≡ of row → from + count y ≤ owned i w used t
-  sharing-owned h is = rw is (omega (arith, g.own, owed_more i w t j used h, counts row))
+  -- the next record is there, and its items
+  pub sharing-row : j < used → (j + 1) * w ≤ length t
+  sharing-row h = le_trans (mul-le-mul_right w (omega arith)) g.fit.rows
 
-  pub sharing-items : j < used → {y : X} → y ≡ of row → (from + count y) * iw ≤ length items
-  sharing-items h is = le_trans (mul-le-mul_right iw (sharing-owned h is)) g.fit.shares
+  sharing-owned : j < used → from + word row i ≤ owned i w used t
+  sharing-owned h = omega (arith, g.own, owed_more i w t j used h)
 
-  pub sharing-more : {y : X} {x : List ℕ} {next : ℕ} → j < used → y ≡ of row →
-      Puts (put (record { whole = y; items = records_of iw item_of (count y) (drop (from * iw) items) })) out place x next →
-      Sharing put i count w of iw item_of t used items all e at (j + 1) (from + count y) x next
-  sharing-more h is p = rw is (go (rw is at p))
+  pub sharing-items : j < used → {y : List ℕ} → y ≡ row → (from + word y i) * iw ≤ length items
+  sharing-items h is = rw is (le_trans (mul-le-mul_right iw (sharing-owned h)) g.fit.shares)
+
+  pub sharing-more : {y : List ℕ} {n : ℕ} {x : List ℕ} {next : ℕ} → j < used → y ≡ row → n ≡ word y i →
+      Puts (put (record { whole = y; items = cut iw (word y i) (drop (from * iw) items) })) out place x next →
+      Sharing put i w iw t used items all e at (j + 1) (from + n) x next
+  sharing-more h is counts p = rw (counts, is) (go (rw is at p))
     where
-      go : {x : List ℕ} {next : ℕ} → Puts (put (record { whole = of row; items = records_of iw item_of (count (of row)) (drop (from * iw) items) })) out place x next →
-          Sharing put i count w of iw item_of t used items all e at (j + 1) (from + count (of row)) x next
+      go : {x : List ℕ} {next : ℕ} → Puts (put (record { whole = row; items = cut iw (word row i) (drop (from * iw) items) })) out place x next →
+          Sharing put i w iw t used items all e at (j + 1) (from + word row i) x next
       go p =
-          let inside : from + count (of row) ≤ owned i w used t = sharing-owned h refl in
+          let inside : from + word row i ≤ owned i w used t = sharing-owned h in
+          let own-items : take (word row i) (rows iw items from (owned i w used t)) ≡ cut iw (word row i) (drop (from * iw) items) =
+          share iw (λ row. row) items from (word row i) (owned i w used t) inside ∙ map-id (cut iw (word row i) (drop (from * iw) items)) in
           record {
             fit = g.fit;
             few = omega arith;
-            own = omega (arith, g.own, owed_more i w t j used h, counts row);
-            going = rw (← others iw item_of items from (count (of row)) (owned i w used t) inside)
-                (onward-more (rw (between_more w of t j used h) at g.going) (rw (← share iw item_of items from (count (of row)) (owned i w used t) inside) at p));
+            own = omega (arith, g.own, owed_more i w t j used h);
+            going = rw (← others iw (λ row. row) items from (word row i) (owned i w used t) inside)
+                (onward-more (rw (between_more w (λ row. row) t j used h) at g.going) (rw (← own-items) at p));
           }
 
-module _ {X Y : Type 0} {put : With X Y → List ℕ} {i : ℕ} {count : X → ℕ} {w : ℕ} {of : List ℕ → X} {iw : ℕ} {item_of : List ℕ → Y}
-    {t : List ℕ} {used : ℕ} {items all e : List ℕ} {at j from : ℕ} {out : List ℕ} {place : ℕ} where
-  -- the next record is there
-  pub sharing-row : Sharing put i count w of iw item_of t used items all e at j from out place → j < used → (j + 1) * w ≤ length t
-  sharing-row g h = le_trans (mul-le-mul_right w (omega arith)) g.fit.rows
-
-  pub sharing-done : Sharing put i count w of iw item_of t used items all e at j from out place → used ≤ j → Puts all e at out place
-  sharing-done g h = onward-done (rw (between_none w of t j used h) at g.going)
+  pub sharing-done : used ≤ j → Puts all e at out place
+  sharing-done h = onward-done (rw (between_none w (λ row. row) t j used h) at g.going)
 
 pub length-shared : {X Y : Type 0} (count : X → ℕ) (xs : List X) (items : List Y) → length (shared count xs items) ≡ length xs
 length-shared count [] items = refl
 length-shared count (x ∷ xs) items = ap suc (length-shared count xs (drop (count x) items))
 
 -- a count, and as many records
-module _ {X Y : Type 0} {put : With X Y → List ℕ} {i : ℕ} {count : X → ℕ} {w : ℕ} {of : List ℕ → X} {iw : ℕ} {item_of : List ℕ → Y}
-    {t : List ℕ} {used : ℕ} {items e m x : List ℕ} {at mid j from next : ℕ} where
-  pub shared-all : Puts (shortest used) e at m mid →
-      Sharing put i count w of iw item_of t used items (put_all put (shares_of i count w of used t iw item_of items)) m mid j from x next → used ≤ j →
-      Puts (put_list put (shares_of i count w of used t iw item_of items)) e at x next
-  shared-all p g h =
-      counted put used (shares_of i count w of used t iw item_of items) (length-shared count (records_of w of used t) _ ∙ length-records w of used t) p
-      (sharing-done g h)
+pub shared-all : {put : With (List ℕ) (List ℕ) → List ℕ} {i w iw : ℕ} {t : List ℕ} {used : ℕ} {items e m x : List ℕ} {at mid j from next : ℕ} →
+    Puts (shortest used) e at m mid →
+    Sharing put i w iw t used items (put_all put (shared (λ row. word row i) (cut w used t) (cut iw (owned i w used t) items))) m mid j from x next → used ≤ j →
+    Puts (put_list put (shared (λ row. word row i) (cut w used t) (cut iw (owned i w used t) items))) e at x next
+shared-all {put = put} {i = i} {w = w} {iw = iw} {t = t} {used = used} {items = items} p g h =
+    counted put used (shared (λ row. word row i) (cut w used t) (cut iw (owned i w used t) items))
+    (length-shared (λ row. word row i) (cut w used t) _ ∙ length-cut w used t) p (sharing-done g h)
+
+-- ── rows as the records that they mean ──
+
+module _ {X Y : Type 0} (put : With X Y → List ℕ) (count : X → ℕ) (of : List ℕ → X) (item_of : List ℕ → Y) where
+  abbrev meant : With (List ℕ) (List ℕ) → With X Y
+  meant w = record { whole = of w.whole; items = map item_of w.items }
+
+  shared-meant : (rs is : List (List ℕ)) → map meant (shared (λ row. count (of row)) rs is) ≡ shared count (map of rs) (map item_of is)
+  shared-meant [] is = refl
+  shared-meant (r ∷ rs) is =
+      rw (take-map, drop-map, shared-meant rs (drop (count (of r)) is))
+
+  pub owners-meant : (rs is : List (List ℕ)) →
+      put_list (λ w. put (meant w)) (shared (λ row. count (of row)) rs is) ≡ put_list put (shared count (map of rs) (map item_of is))
+  owners-meant rs is = list-map put meant _ ∙ ap (put_list put) (shared-meant rs is)

@@ -1,5 +1,4 @@
--- In the way asked: a position from its line and column, roots and steps from their fields, a chain from its parts, and chains from
--- chain by chain.
+-- In the way asked: roots and steps from their fields, a chain from its parts, and chains from chain by chain.
 use Rattle.std.proofs.Common.{if◌then◌else◌}
 use Prim.Native.Nat.{ℕ, zero, suc}
 use mathlib.Core.Bool.{Bool, true, false}
@@ -19,16 +18,6 @@ use Rattle.written.specs.Put.{put_list, put_position, put_root, put_step, put_ta
 use Rattle.written.specs.Strip.{strip_step, strip_chain}
 use Rattle.emit.specs.Ways.{position_in, root_in, put_step_in, put_chain_in, chains_in}
 use Rattle.emit.proofs.Listing.{list-map}
-
-as-placed : (line column : ℕ) → shortest line ++ shortest (if eqb line 0 then 0 else column) ≡ put_position (placed line column)
-as-placed zero column = refl
-as-placed (suc line) column = rw (ne_eqb (suc line) 0 (λ h. omega (arith, h)))
-
-pub position_in_lem : (stripped : Bool) (line column : ℕ) →
-    shortest (if stripped then 0 else small line) ++ shortest (if eqb (if stripped then 0 else small line) 0 then 0 else small column)
-    ≡ put_position (position_in stripped (position line column))
-position_in_lem false line column = as-placed (small line) (small column)
-position_in_lem true line column = refl
 
 pub local-in : (stripped : Bool) (row : List ℕ) →
     put_root (Root.Local (small (word row 1)) (name (word row 2))) ≡ put_root (root_in stripped (Root.Local (small (word row 1)) (name (word row 2))))

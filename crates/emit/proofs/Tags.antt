@@ -76,36 +76,3 @@ module _ (n : ℕ) (past : 11 < n) where
 
   pub pointer-tag : is_pointer n ≡ true
   pointer-tag = lt-ltb 11 n past
-
-module _ (row : List ℕ) where
-  items-past : (n : ℕ) → 11 < n → (if is_list n then word row 5 else 0) ≡ items_of (tagged n row)
-  items-past n past = rw (is_pointer_lem n past row, pointer-tag n past)
-
-  items-by : (n : ℕ) → (if is_list n then word row 5 else 0) ≡ items_of (tagged n row)
-  items-by =
-      by-tag (λ n. (if is_list n then word row 5 else 0) ≡ items_of (tagged n row)) refl refl refl refl refl refl refl refl refl refl refl refl
-      items-past
-
-  keys-past : (n : ℕ) → 11 < n → eqb n 0x08 ≡ keys_of (tagged n row)
-  keys-past n past = rw (is_pointer_lem n past row, isnt n past 8 (omega arith))
-
-  pub keys-by : (n : ℕ) → eqb n 0x08 ≡ keys_of (tagged n row)
-  keys-by = by-tag (λ n. eqb n 0x08 ≡ keys_of (tagged n row)) refl refl refl refl refl refl refl refl refl refl refl refl keys-past
-
-  abbrev Foot : ℕ → Type 0
-  Foot n = (if is_pointer n then put_kind (kind (kind_of (word row 1) (word row 2))) else []) ≡ foot_bytes (tagged n row)
-
-  foot-past : (n : ℕ) → 11 < n → Foot n
-  foot-past n past = rw (is_pointer_lem n past row, pointer-tag n past)
-
-  foot-by : (n : ℕ) → Foot n
-  foot-by = by-tag Foot refl refl refl refl refl refl refl refl refl refl refl refl foot-past
-
--- ── what the code asks ──
-
-pub items-told : (told : Bool) (row : List ℕ) → is_list (word row 0) ≡ told → (if told then word row 5 else 0) ≡ items_of (constant_of row)
-items-told told row e = rw e at (items-by row (word row 0))
-
-pub foot-told : (told : Bool) (row : List ℕ) → is_pointer (word row 0) ≡ told →
-    (if told then put_kind (kind (kind_of (word row 1) (word row 2))) else []) ≡ foot_bytes (constant_of row)
-foot-told told row e = rw e at (foot-by row (word row 0))

@@ -1,16 +1,16 @@
 -- The way asked: positions kept, or stripped; chain by chain, and what is stripped in each.
-use Rattle.std.specs.Prelude.{ℕ, Bool, true, false, List, map}
+use Rattle.std.specs.Prelude.{ℕ, Bool, true, false, List, map, Option, Some, None}
 use Rattle.tables.specs.Table.{With}
-use Rattle.format.specs.declared.records.OptionalPosition.{OptionalPosition}
+use Rattle.format.specs.declared.records.Position.{Position}
 use Rattle.format.specs.declared.records.Root.{Root}
 use Rattle.format.specs.declared.records.Step.{Step}
 use Rattle.format.specs.declared.records.Chain.{Chain}
 use Rattle.written.specs.Put.{put_step, put_chain}
 use Rattle.written.specs.Strip.{strip_root, strip_step, strip_chain}
 
-abbrev pub position_in : Bool → OptionalPosition → OptionalPosition
+abbrev pub position_in : Bool → Option Position → Option Position
 position_in false p = p
-position_in true p = OptionalPosition.Absent
+position_in true p = None
 
 abbrev pub root_in : Bool → Root → Root
 root_in false r = r

@@ -1,14 +1,14 @@
 // Chains: where they start, their steps, and what they do at the end, from the words of their rows. Where positions are stripped, none
 // is written.
-ghost use Rattle.std.specs.Prelude.{◌+◌, ◌*◌, ◌≤◌, [], ◌∷◌, length, drop};
-ghost use Rattle.rows.specs.Back.{records_of, octet, chain_of, step_of, index_of, property_of, method_of};
+ghost use Rattle.std.specs.Prelude.{◌≡◌, ◌+◌, ◌*◌, ◌≤◌, [], ◌∷◌, length, map};
+ghost use Rattle.rows.specs.Back.{word, octet, chain_of, step_of, index_of, property_of, method_of};
 ghost use Rattle.written.specs.Put as definition;
 ghost use Rattle.emit.specs.Shares.{SharesFit, chain_from, chains_of};
 ghost use Rattle.emit.specs.Puts.{Puts};
 ghost use Rattle.emit.specs.Ways.{root_in, put_step_in, put_chain_in, chains_in};
 
-use crate::base::{byte, number};
-use crate::places::{row_of_eleven, row_of_nine};
+use crate::base::byte;
+use crate::record::{Owner, Record, list, owners};
 use crate::words::{index, octet, position, small};
 use format::tags::{RootTag, StepTag, TailTag};
 
@@ -70,16 +70,26 @@ fn method(out: &mut [u8], at: usize, strip: bool, row: [u64; 11]) -> usize
     position(out, operand, strip, row[7], row[8])
 }
 
-pub fn step(out: &mut [u8], at: usize, strip: bool, row: [u64; 11]) -> usize
-    ensures { Puts (put_step_in strip (step_of row)) out.old at out.new result }
-{
-    let tag = row[0];
-    if tag == StepTag::INDEX as u64 {
-        index_step(out, at, strip, row)
-    } else if tag == StepTag::PROPERTY as u64 {
-        property(out, at, strip, row)
-    } else {
-        method(out, at, strip, row)
+// A step, with its positions or without.
+#[derive(Clone, Copy)]
+pub struct Step {
+    pub strip: bool,
+}
+
+impl Record<11> for Step {
+    ghost bytes = { λ k row. put_step_in k.strip (step_of row) };
+
+    fn put(&self, out: &mut [u8], at: usize, row: [u64; 11]) -> usize
+        ensures { Puts (put_step_in self.now.strip (step_of row)) out.old at out.new result }
+    {
+        let tag = row[0];
+        if tag == StepTag::INDEX as u64 {
+            index_step(out, at, self.strip, row)
+        } else if tag == StepTag::PROPERTY as u64 {
+            property(out, at, self.strip, row)
+        } else {
+            method(out, at, self.strip, row)
+        }
     }
 }
 
@@ -97,30 +107,33 @@ pub fn tail(out: &mut [u8], at: usize, row: [u64; 9]) -> usize
     index(out, behind, row[8])
 }
 
-// A count and the steps from a place of their table on.
-pub fn step_list(out: &mut [u8], at: usize, strip: bool, t: &[u64], from: usize, n: usize) -> usize
-    requires { (from + n) * 11 ≤ length t.now }
-    ensures { Puts (definition.put_list (put_step_in strip) (records_of 11 step_of n (drop (from * 11) t.now))) out.old at out.new result }
-{
-    let end = from + n;
-    let mut place = number(out, at, n as u64);
-    let mut j = from;
-    while j < end {
-        place = step(out, place, strip, row_of_eleven(t, j));
-        j += 1;
-    }
-    place
+// A chain, with the positions of it and of its steps or without.
+#[derive(Clone, Copy)]
+pub struct Chain {
+    pub strip: bool,
 }
 
-// A chain with its steps, from a place of their table on.
-fn chain(out: &mut [u8], at: usize, strip: bool, row: [u64; 9], steps: &[u64], from: usize) -> usize
-    requires { (from + (chain_of row).steps) * 11 ≤ length steps.now }
-    ensures { Puts (put_chain_in strip (chain_from (chain_of row) steps.now from)) out.old at out.new result }
-{
-    let started = root(out, at, strip, row);
-    let operands = small(out, started, row[5]);
-    let behind = step_list(out, operands, strip, steps, from, row[6] as usize);
-    tail(out, behind, row)
+impl Owner<9, 11> for Chain {
+    ghost counted = { 6 };
+
+    ghost bytes = { λ c row steps. put_chain_in c.strip (record { whole = chain_of row; items = map step_of steps }) };
+
+    fn owned(row: [u64; 9]) -> usize
+        ensures { result ≡ word row 6 }
+    {
+        row[6] as usize
+    }
+
+    fn put(&self, out: &mut [u8], at: usize, row: [u64; 9], steps: &[u64], from: usize) -> usize
+        requires { (from + word row 6) * 11 ≤ length steps.now }
+        ensures { Puts (put_chain_in self.now.strip (chain_from (chain_of row) steps.now from)) out.old at out.new result }
+    {
+        let strip = self.strip;
+        let started = root(out, at, strip, row);
+        let operands = small(out, started, row[5]);
+        let behind = list(out, operands, &Step { strip }, steps, from, row[6] as usize);
+        tail(out, behind, row)
+    }
 }
 
 // The section, in the way asked. That the chains own all the steps, and no more, was tested before.
@@ -135,14 +148,5 @@ pub fn chains(
     requires { SharesFit 6 9 used t.now 11 steps.now }
     ensures { Puts (definition.put_list definition.put_chain (chains_in strip (chains_of t.now used steps.now))) out.old at out.new result }
 {
-    let mut place = number(out, at, used as u64);
-    let mut from: usize = 0;
-    let mut j: usize = 0;
-    while j < used {
-        let row = row_of_nine(t, j);
-        place = chain(out, place, strip, row, steps, from);
-        from += row[6] as usize;
-        j += 1;
-    }
-    place
+    owners(out, at, &Chain { strip }, t, used, steps)
 }

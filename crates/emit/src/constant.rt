@@ -10,7 +10,7 @@ ghost use Rattle.model.specs.Lent.{clip};
 ghost use Rattle.emit.specs.Puts.{Puts};
 ghost use Rattle.emit.specs.Constants.{head_bytes, foot_bytes, key_bytes, ItemsStand, PutsItems, ConstantsFit, constants_of};
 
-use crate::base::{byte, low_bytes, number};
+use crate::base::{byte, bytes, number};
 use crate::owning;
 use crate::owning::{has_keys, items_of};
 use crate::words::{index, signed, text};
@@ -57,7 +57,7 @@ fn float(out: &mut [u8], at: usize, bits: u64) -> usize
     ensures { Puts (4 ∷ low_bytes 8 bits) out.old at out.new result }
 {
     let behind = byte(out, at, ConstantTag::FLOAT);
-    low_bytes(out, behind, 8, bits)
+    bytes(out, behind, &bits.to_le_bytes())
 }
 
 fn character(out: &mut [u8], at: usize, w: u64) -> usize
@@ -174,9 +174,8 @@ fn items(
 {
     let mut place = at;
     let mut next = from;
-    let mut left = n;
-    while 0 < left {
-        let row = row::of_eight(t, next * 8);
+    for _ in 0..n {
+        let row = row::of(t, next * 8);
         let behind = key(out, place, s, keys, row);
         let told = head(out, behind, s, row);
         let own = items_of(row);
@@ -198,7 +197,6 @@ fn items(
             place = foot(out, inner.place, row);
             next = inner.next;
         }
-        left -= 1;
     }
     Behind { place, next }
 }

@@ -7,7 +7,7 @@ ghost use Rattle.rows.specs.Back as definition;
 pub fn bit(w: u64) -> u8
     ensures { result ≡ (if eqb w 0 then 0 else 1) }
 {
-    if w == 0 { 0 } else { 1 }
+    u8::from(w != 0)
 }
 
 // The number that means a signed one, from its bits.

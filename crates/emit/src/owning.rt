@@ -1,17 +1,11 @@
 // Constants by their tag: which are function pointers, and which own items.
-ghost use Rattle.std.specs.Prelude.{◌≡◌, ◌||◌};
+ghost use Rattle.std.specs.Prelude.{◌≡◌};
 ghost use Rattle.rows.specs.Back.{constant_of};
 ghost use Rattle.rows.specs.Tree.{items_of};
 ghost use Rattle.emit.specs.Constants.{keys_of};
 ghost use Rattle.emit.specs.Tags.{is_pointer, is_list};
 
 use format::tags::ConstantTag;
-
-pub fn either(a: bool, b: bool) -> bool
-    ensures { result ≡ a || b }
-{
-    if a { true } else { b }
-}
 
 // A function pointer, which every tag behind the others means.
 pub fn pointer(tag: u64) -> bool
@@ -24,13 +18,7 @@ pub fn pointer(tag: u64) -> bool
 pub fn listed(tag: u64) -> bool
     ensures { result ≡ is_list tag }
 {
-    either(
-        pointer(tag),
-        either(
-            tag == ConstantTag::ARRAY as u64,
-            tag == ConstantTag::MAP as u64,
-        ),
-    )
+    pointer(tag) || tag == ConstantTag::ARRAY as u64 || tag == ConstantTag::MAP as u64
 }
 
 pub fn items_of(row: [u64; 8]) -> u64

@@ -6,51 +6,38 @@ ghost use Rattle.emit.specs.Shares.{SharesFit, switch_from, switches_of};
 ghost use Rattle.emit.specs.Puts.{Puts};
 
 use crate::base::number;
-use crate::places::{row_of_four, row_of_three, row_of_two};
+use crate::record::{Record, list};
 use crate::words::{flag, index, signed};
+use rows::row;
 
-fn case(out: &mut [u8], at: usize, row: [u64; 2]) -> usize
-    ensures { Puts (definition.put_case (case_of row)) out.old at out.new result }
-{
-    let behind = index(out, at, row[0]);
-    index(out, behind, row[1])
-}
+#[derive(Clone, Copy)]
+pub struct Case;
 
-fn range(out: &mut [u8], at: usize, row: [u64; 4]) -> usize
-    ensures { Puts (definition.put_range (range_of row)) out.old at out.new result }
-{
-    let from = signed(out, at, row[0]);
-    let to = signed(out, from, row[1]);
-    let told = flag(out, to, row[2]);
-    index(out, told, row[3])
-}
+impl Record<2> for Case {
+    ghost bytes = { λ c row. definition.put_case (case_of row) };
 
-fn case_list(out: &mut [u8], at: usize, t: &[u64], from: usize, n: usize) -> usize
-    requires { (from + n) * 2 ≤ length t.now }
-    ensures { Puts (definition.put_list definition.put_case (records_of 2 case_of n (drop (from * 2) t.now))) out.old at out.new result }
-{
-    let end = from + n;
-    let mut place = number(out, at, n as u64);
-    let mut j = from;
-    while j < end {
-        place = case(out, place, row_of_two(t, j));
-        j += 1;
+    fn put(&self, out: &mut [u8], at: usize, row: [u64; 2]) -> usize
+        ensures { Puts (definition.put_case (case_of row)) out.old at out.new result }
+    {
+        let behind = index(out, at, row[0]);
+        index(out, behind, row[1])
     }
-    place
 }
 
-fn range_list(out: &mut [u8], at: usize, t: &[u64], from: usize, n: usize) -> usize
-    requires { (from + n) * 4 ≤ length t.now }
-    ensures { Puts (definition.put_list definition.put_range (records_of 4 range_of n (drop (from * 4) t.now))) out.old at out.new result }
-{
-    let end = from + n;
-    let mut place = number(out, at, n as u64);
-    let mut j = from;
-    while j < end {
-        place = range(out, place, row_of_four(t, j));
-        j += 1;
+#[derive(Clone, Copy)]
+pub struct Range;
+
+impl Record<4> for Range {
+    ghost bytes = { λ r row. definition.put_range (range_of row) };
+
+    fn put(&self, out: &mut [u8], at: usize, row: [u64; 4]) -> usize
+        ensures { Puts (definition.put_range (range_of row)) out.old at out.new result }
+    {
+        let from = signed(out, at, row[0]);
+        let to = signed(out, from, row[1]);
+        let told = flag(out, to, row[2]);
+        index(out, told, row[3])
     }
-    place
 }
 
 // Cases, ranges, a default.
@@ -67,8 +54,8 @@ fn switch(
     requires row_in_bounds_2 { (behind + (switch_of row).ranges) * 4 ≤ length ranges.now }
     ensures { Puts (definition.put_switch (switch_from (switch_of row) cases.now from ranges.now behind)) out.old at out.new result }
 {
-    let listed = case_list(out, at, cases, from, row[0] as usize);
-    let ranged = range_list(out, listed, ranges, behind, row[1] as usize);
+    let listed = list(out, at, &Case, cases, from, row[0] as usize);
+    let ranged = list(out, listed, &Range, ranges, behind, row[1] as usize);
     index(out, ranged, row[2])
 }
 
@@ -87,13 +74,11 @@ pub fn switches(
     let mut place = number(out, at, used as u64);
     let mut from: usize = 0;
     let mut behind: usize = 0;
-    let mut j: usize = 0;
-    while j < used {
-        let row = row_of_three(t, j);
+    for j in 0..used {
+        let row = row::of(t, j * 3);
         place = switch(out, place, row, cases, from, ranges, behind);
         from += row[0] as usize;
         behind += row[1] as usize;
-        j += 1;
     }
     place
 }

@@ -17,7 +17,7 @@ use Rattle.emit.proofs.Listing.{length-records}
 use Rattle.emit.proofs.Sharing.{length-shared}
 use Rattle.sizes.specs.Counts.{Counts}
 use Rattle.sizes.proofs.Laws.{counts_same, counts-then}
-use Rattle.sizes.proofs.Flat.{listed}
+use Rattle.sizes.proofs.Flat.{listed, rows-counted}
 
 -- ── lists in parts ──
 
@@ -71,10 +71,11 @@ module _ {X Y : Type 0} (put : With X Y → List ℕ) (own : X → List ℕ) (it
   -- the count, the records without their items, and the items
   pub shares-count : (i w : ℕ) (of : List ℕ → X) (used : ℕ) (t : List ℕ) (iw : ℕ) (item_of : List ℕ → Y) (items : List ℕ) →
       ((row : List ℕ) → count (of row) ≡ word row i) → {size at mid behind n next : ℕ} → size ≡ length (shortest used) → mid ≡ min (at + size) 1048577 →
-      Counts (put_all own (records_of w of used t)) mid behind → n ≡ owned i w used t → Counts (put_all item (records_of iw item_of n items)) behind next →
+      Counts (put_all (λ row. own (of row)) (cut w used t)) mid behind → n ≡ owned i w used t →
+      Counts (put_all (λ row. item (item_of row)) (cut iw n items)) behind next →
       Counts (put_list put (shares_of i count w of used t iw item_of items)) at next
   shares-count i w of used t iw item_of items same {mid = mid} {behind = behind} {next = next} long first wholes exact rest =
       let all : Counts (put_all own (records_of w of used t) ++ put_all item (records_of iw item_of (owned i w used t) items)) mid next =
-      counts-then wholes (rw exact at rest) in
+      counts-then (rows-counted own of (cut w used t) wholes) (rows-counted item item_of (cut iw (owned i w used t) items) (rw exact at rest)) in
       listed put used (shares_of i count w of used t iw item_of items) (length-shared count (records_of w of used t) _ ∙ length-records w of used t) long first
       (counts_same (length-append (put_all own (records_of w of used t)) _ ∙ sym (shares-apart i w of used t iw item_of items same)) all)

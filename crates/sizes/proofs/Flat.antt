@@ -1,32 +1,30 @@
--- The loop over the rows of a table, for any record, width and way of putting it: the place behind what is still to count comes to the
--- place behind all.
+-- The loop over the rows of a table, for any kind of record: the place behind what is still to count comes to the place behind all.
 use Prim.Native.Nat.{ℕ, ◌+◌, ◌*◌, ◌≤◌, ◌<◌, min}
-use mathlib.Core.Path.{◌≡◌}
-use mathlib.Core.List.{List}
+use mathlib.Core.Path.{◌≡◌, ap}
+use mathlib.Core.List.{List, map}
 use native.Mathlib.Nat.{le_trans, mul-le-mul_right}
 use native.Mathlib.Omega.{arith}
 use lib.ListN.{length, take, drop, length-append}
 use Rattle.grammar.specs.Combinators.{put_all}
 use Rattle.grammar.specs.Number.{shortest}
-use Rattle.rows.specs.Back.{records_of}
+use Rattle.rows.specs.Back.{cut, records_of}
 use Rattle.written.specs.Put.{put_list}
-use Rattle.emit.proofs.Listing.{between, between_more, between_none, between-all, length-records}
+use Rattle.emit.proofs.Listing.{between_more, between_none, rows, rows-all, length-records, all_map}
 use Rattle.sizes.specs.Counts.{Counts}
-use Rattle.sizes.proofs.Laws.{counts-then}
+use Rattle.sizes.proofs.Laws.{counts_same, counts-then}
 
 -- the rows before j are counted
-pub record Flat {X : Type 0} (put : X → List ℕ) (w : ℕ) (of : List ℕ → X) (t : List ℕ) (at used j place : ℕ) : Type 0 where
+pub record Flat (bytes : List ℕ → List ℕ) (w : ℕ) (t : List ℕ) (at used j place : ℕ) : Type 0 where
   pub inside : used * w ≤ length t
   pub few : j ≤ used
   pub near : place ≤ 1048577
-  pub going : min (place + length (put_all put (between w of t j used))) 1048577 ≡ min (at + length (put_all put (records_of w of used t))) 1048577
+  pub going : min (place + length (put_all bytes (rows w t j used))) 1048577 ≡ min (at + length (put_all bytes (cut w used t))) 1048577
 
-pub flat-none : {X : Type 0} {put : X → List ℕ} {w : ℕ} {of : List ℕ → X} {t : List ℕ} {at used : ℕ} →
-    used * w ≤ length t → at ≤ 1048577 → Flat put w of t at used 0 at
-flat-none {w = w} {of = of} {t = t} {used = used} fits near =
-    record { inside = fits; few = omega arith; near = near; going = rw (between-all w of t used) }
+pub flat-none : {bytes : List ℕ → List ℕ} {w : ℕ} {t : List ℕ} {at used : ℕ} → used * w ≤ length t → at ≤ 1048577 → Flat bytes w t at used 0 at
+flat-none {w = w} {t = t} {used = used} fits near =
+    record { inside = fits; few = omega arith; near = near; going = rw (rows-all w t used) }
 
-module _ {X : Type 0} {put : X → List ℕ} {w : ℕ} {of : List ℕ → X} {t : List ℕ} {at used j place : ℕ} (g : Flat put w of t at used j place) where
+module _ {bytes : List ℕ → List ℕ} {w : ℕ} {t : List ℕ} {at used j place : ℕ} (g : Flat bytes w t at used j place) where
   -- the next row is there
   pub flat-row : j < used → (j + 1) * w ≤ length t
   flat-row h = le_trans (mul-le-mul_right w (omega arith)) g.inside
@@ -34,24 +32,22 @@ module _ {X : Type 0} {put : X → List ℕ} {w : ℕ} {of : List ℕ → X} {t 
   abbrev row : List ℕ
   row = take w (drop (j * w) t)
 
-  counted-more : {next : ℕ} → j < used → next ≡ min (place + length (put (of row))) 1048577 → Flat put w of t at used (j + 1) next
-  counted-more {next} h is =
-      let split : length (put_all put (between w of t j used)) ≡ length (put (of row)) + length (put_all put (between w of t (j + 1) used)) =
-      rw (between_more w of t j used h) (length-append (put (of row)) (put_all put (between w of t (j + 1) used))) in
+  pub flat_on : {words : List ℕ} {next : ℕ} → j < used → words ≡ row → Counts (bytes words) place next → Flat bytes w t at used (j + 1) next
+  flat_on {next = next} h is p =
+      let split : length (put_all bytes (rows w t j used)) ≡ length (bytes row) + length (put_all bytes (rows w t (j + 1) used)) =
+      rw (between_more w (λ row. row) t j used h) (length-append (bytes row) (put_all bytes (rows w t (j + 1) used))) in
+      let here : next ≡ min (place + length (bytes row)) 1048577 = rw (← is) p.next in
       record { inside = g.inside; few = omega arith; near = omega arith; going = omega (arith, split, g.going) }
 
-  -- by the size of the next row, and by a function that counts from a place on
-  pub flat-more : {words : List ℕ} {n next : ℕ} → j < used → words ≡ row → n ≡ length (put (of words)) → next ≡ min (place + n) 1048577 →
-      Flat put w of t at used (j + 1) next
-  flat-more {next = next} h is size next-is = counted-more h (rw (← is, ← size) next-is)
-
-  pub flat_on : {words : List ℕ} {next : ℕ} → j < used → words ≡ row → Counts (put (of words)) place next → Flat put w of t at used (j + 1) next
-  flat_on {next = next} h is p = counted-more h (rw (← is) p.next)
-
-  pub flat-done : used ≤ j → Counts (put_all put (records_of w of used t)) at place
+  pub flat-done : used ≤ j → Counts (put_all bytes (cut w used t)) at place
   flat-done h =
-      let none : length (put_all put (between w of t j used)) ≡ 0 = rw (between_none w of t j used h) in
+      let none : length (put_all bytes (rows w t j used)) ≡ 0 = rw (between_none w (λ row. row) t j used h) in
       record { next = omega (arith, none, g.near, g.going) }
+
+-- rows as the records that they mean
+pub rows-counted : {X : Type 0} (put : X → List ℕ) (of : List ℕ → X) (rows : List (List ℕ)) {at next : ℕ} →
+    Counts (put_all (λ row. put (of row)) rows) at next → Counts (put_all put (map of rows)) at next
+rows-counted put of rows p = counts_same (ap length (all_map put of rows)) p
 
 -- a count, and as many records
 pub listed : {X : Type 0} (put : X → List ℕ) (n : ℕ) (xs : List X) {size at mid next : ℕ} → length xs ≡ n → size ≡ length (shortest n) →
@@ -61,5 +57,6 @@ listed put n xs {size} {at} {mid} counts long first rest =
     counts-then count rest
 
 pub listed-rows : {X : Type 0} (put : X → List ℕ) (w : ℕ) (of : List ℕ → X) (n : ℕ) (t : List ℕ) {size at mid next : ℕ} → size ≡ length (shortest n) →
-    mid ≡ min (at + size) 1048577 → Counts (put_all put (records_of w of n t)) mid next → Counts (put_list put (records_of w of n t)) at next
-listed-rows put w of n t long first rest = listed put n (records_of w of n t) (length-records w of n t) long first rest
+    mid ≡ min (at + size) 1048577 → Counts (put_all (λ row. put (of row)) (cut w n t)) mid next → Counts (put_list put (records_of w of n t)) at next
+listed-rows put w of n t long first rest =
+    listed put n (records_of w of n t) (length-records w of n t) long first (rows-counted put of (cut w n t) rest)

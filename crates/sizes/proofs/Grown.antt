@@ -18,7 +18,7 @@ use Rattle.emit.proofs.Nodes.{enough-length, item-bytes, tops-list}
 use Rattle.emit.proofs.Growing.{keyed_at, Next, next_of, turn-of}
 use Rattle.sizes.specs.Counts.{Counts}
 use Rattle.sizes.specs.Items.{CountsItems}
-use Rattle.sizes.specs.declared.constant.Reached.{Reached}
+use Rattle.emit.specs.declared.constant.Behind.{Behind}
 use Rattle.sizes.proofs.Laws.{counts_same, counts-then}
 
 -- ── the loop ──
@@ -51,7 +51,7 @@ none-grow (suc l) (suc k) is few near same = absurd (omega arith)
 
 -- one constant more, of a row: its key, what it is without its items, and its items
 module _ {text : List ℕ} {keys : Bool} {n : ℕ} {t : List ℕ} {used from at next place p q : ℕ} where
-  one_more_lem : {l k : ℕ} {inner : Reached} → Grown text keys (suc l) n t used from at next (suc k) place →
+  one_more_lem : {l k : ℕ} {inner : Behind} → Grown text keys (suc l) n t used from at next (suc k) place →
       Counts (key_bytes text keys (keyed_at t next).key) place p →
       Counts (head_bytes text (keyed_at t next).constant ++ foot_bytes (keyed_at t next).constant) p q →
       CountsItems text (keys_of (keyed_at t next).constant) l (items_of (keyed_at t next).constant) t used (next + 1) q inner →
@@ -78,7 +78,7 @@ module _ {text : List ℕ} {keys : Bool} {n : ℕ} {t : List ℕ} {used from at 
         going = rw items.rest here;
       }
 
-  pub grown-more : (levels left : ℕ) (keyed : Keyed) {m : ℕ} {under : Bool} {inner : Reached} → Grown text keys levels n t used from at next left place → 0 < left →
+  pub grown-more : (levels left : ℕ) (keyed : Keyed) {m : ℕ} {under : Bool} {inner : Behind} → Grown text keys levels n t used from at next left place → 0 < left →
       keyed ≡ keyed_at t next → m ≡ items_of keyed.constant → under ≡ keys_of keyed.constant →
       Counts (key_bytes text keys keyed.key) place p →
       Counts (head_bytes text keyed.constant ++ foot_bytes keyed.constant) p q →
@@ -105,7 +105,7 @@ pub grown-items : (levels left : ℕ) (keyed : Keyed) {m : ℕ} {t : List ℕ} {
 grown-items levels left keyed stand h is counts = rw (counts, is) (turn-of levels left stand h).items
 
 -- the top constants behind their count
-pub tops-count : (levels tops : ℕ) {text t : List ℕ} {used size at mid : ℕ} {r : Reached} → ItemsStand levels tops t used 0 → size ≡ length (shortest tops) →
+pub tops-count : (levels tops : ℕ) {text t : List ℕ} {used size at mid : ℕ} {r : Behind} → ItemsStand levels tops t used 0 → size ≡ length (shortest tops) →
     mid ≡ min (at + size) 1048577 → CountsItems text false levels tops t used 0 mid r →
     Counts (put_list (put_constant levels) (map (λ tree. over_texts (clip text) levels tree.1) (grow levels tops (records_of 8 keyed_of used t)).trees)) at r.place
 tops-count levels tops {text} {t} {used} {size} {at} {mid} stand long first items =

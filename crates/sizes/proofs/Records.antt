@@ -1,6 +1,7 @@
 -- The sizes of switches, custom sites and functions, of their items, and of both apart.
+use Rattle.std.specs.Prelude.{Some, None}
 use Rattle.std.proofs.Common.{if◌then◌else◌}
-use Prim.Native.Nat.{ℕ, zero, suc, ◌+◌, ◌-◌, min}
+use Prim.Native.Nat.{ℕ, ◌+◌, ◌-◌, min}
 use mathlib.Core.Bool.{Bool, true, false}
 use mathlib.Core.Path.{◌≡◌, refl, sym, ◌∙◌, ap}
 use mathlib.Core.List.{List, [], ◌∷◌, ◌++◌}
@@ -8,19 +9,17 @@ use native.Mathlib.Omega.{arith}
 use lib.Dec.{eqb}
 use lib.ListN.{length, take, drop, length-append, length-take, length-drop}
 use Rattle.grammar.specs.Combinators.{put_all}
-use Rattle.grammar.specs.Number.{shortest, shortest_in, zigzag}
+use Rattle.grammar.specs.Number.{shortest, shortest_in}
 use Rattle.format.specs.declared.records.NameIndex.{NameIndex}
 use Rattle.format.specs.declared.records.Switch.{Switch}
 use Rattle.format.specs.declared.records.Case.{Case}
 use Rattle.format.specs.declared.records.Range.{Range}
-use Rattle.format.specs.declared.records.Literal.{Literal}
 use Rattle.format.specs.declared.records.Input.{Input}
 use Rattle.format.specs.declared.records.Site.{Site}
 use Rattle.format.specs.declared.records.Function.{Function}
 use Rattle.format.specs.declared.records.Access.{Access}
-use Rattle.format.specs.declared.records.ThisType.{ThisType}
 use Rattle.rows.specs.Back as B
-use Rattle.written.specs.Put.{put_list, put_name, put_case, put_range, put_switch, put_literal, put_input, put_site, put_access, put_this, put_function}
+use Rattle.written.specs.Put.{put_list, put_name, put_case, put_range, put_switch, put_input, put_site, put_access, put_this, put_function}
 use Rattle.model.specs.Tables.{shared_cases}
 use Rattle.emit.specs.Shares.{owned, switches_of}
 use Rattle.emit.proofs.Listing.{length-records}
@@ -28,39 +27,13 @@ use Rattle.emit.proofs.Switching.{length-cased}
 use Rattle.sizes.specs.Counts.{Counts}
 use Rattle.sizes.specs.Own.{own_switch, own_site, own_function}
 use Rattle.sizes.proofs.Laws.{counts_same, counts-then}
-use Rattle.sizes.proofs.Flat.{listed}
+use Rattle.sizes.proofs.Flat.{listed, rows-counted}
 use Rattle.sizes.proofs.Apart.{parted, counts, counts-total}
-
--- ── two, three and four parts ──
-
-pub two-sizes : (a b : List ℕ) {m n : ℕ} → m ≡ length a → n ≡ length b → m + n ≡ length (a ++ b)
-two-sizes a b m n = rw (length-append a b) (omega arith)
-
-pub three-sizes : (a b c : List ℕ) {m n k : ℕ} → m ≡ length a → n ≡ length b → k ≡ length c → m + n + k ≡ length (a ++ (b ++ c))
-three-sizes a b c m n k = rw (length-append a (b ++ c), length-append b c) (omega arith)
 
 -- ── one record ──
 
-pub range_size : (g : Range) {from to target : ℕ} → from ≡ length (shortest (zigzag g.from)) → to ≡ length (shortest (zigzag g.to)) →
-    target ≡ length (shortest g.target) → from + to + 1 + target ≡ length (put_range g)
-range_size g f t e = simp length-append (omega arith)
-
--- FFFFFFFF means none
-literal-bytes : (absent : Bool) (n : ℕ) → shortest (if absent then 0xFFFFFFFF else n) ≡ put_literal (if absent then Literal.Absent else Literal.Present n)
-literal-bytes true n = refl
-literal-bytes false n = refl
-
-pub input-size : (row : List ℕ) {entry end slots literal all : ℕ} → entry ≡ length (shortest (B.index (B.word row 0))) →
-    end ≡ length (shortest (B.index (B.word row 1))) → slots ≡ length (shortest (B.small (B.word row 2))) →
-    literal ≡ (if eqb (B.word row 3) 0 then 0xFFFFFFFF else B.index (B.word row 4)) → all ≡ length (shortest literal) →
-    entry + end + slots + all ≡ length (put_input (B.input_of row))
-input-size row {literal = literal} {all = all} e d s is a =
-    let told : all ≡ length (put_literal (B.literal_of (B.word row 3) (B.word row 4))) =
-    a ∙ ap length (ap shortest is ∙ literal-bytes (eqb (B.word row 3) 0) (B.index (B.word row 4))) in
-    simp length-append (omega arith)
-
 -- one higher than the index
-this-bytes : (none : Bool) (n : ℕ) → shortest (if none then 0 else n + 1) ≡ put_this (if none then ThisType.Untyped else ThisType.Typed n)
+this-bytes : (none : Bool) (n : ℕ) → shortest (if none then 0 else n + 1) ≡ put_this (if none then None else Some n)
 this-bytes true n = refl
 this-bytes false n = refl
 
@@ -89,11 +62,6 @@ site-apart u inputs counted = rw counted (simp length-append (omega arith))
 pub function-apart : (f : Function) (parameters : List NameIndex) → length parameters ≡ f.parameters →
     length (put_function (record { whole = f; items = parameters })) ≡ length (own_function f) + length (put_all put_name parameters)
 function-apart f parameters counted = rw counted (simp length-append (omega arith))
-
--- a parameter is an index
-pub parameters-indices : (n : ℕ) (t : List ℕ) → put_all shortest (B.records_of 1 B.end_of n t) ≡ put_all put_name (B.records_of 1 B.parameter_of n t)
-parameters-indices zero t = refl
-parameters-indices (suc n) t = ap (λ (l : List ℕ). shortest (B.end_of (take 1 t)) ++ l) (parameters-indices n (drop 1 t))
 
 switch-apart : (w : Switch) (cases : List Case) (ranges : List Range) → length cases ≡ w.cases → length ranges ≡ w.ranges →
     length (put_switch (record { whole = w; cases = cases; ranges = ranges })) ≡ length (own_switch w) + length (put_all put_case cases) + length (put_all put_range ranges)
@@ -141,12 +109,15 @@ module _ (t : List ℕ) (used : ℕ) (cases ranges : List ℕ) where
       (counts-total (λ w. w.ranges) B.switch_of 1 (λ row. refl) (B.cut 3 used t) ∙ sym (length-records 4 B.range_of (owned 1 3 used t) ranges))
 
   pub switches-count : {size at mid behind listed_at n k next : ℕ} → size ≡ length (shortest used) → mid ≡ min (at + size) 1048577 →
-      Counts (put_all own_switch wholes) mid behind → n ≡ owned 0 3 used t → Counts (put_all put_case (cased n)) behind listed_at →
-      k ≡ owned 1 3 used t → Counts (put_all put_range (ranged k)) listed_at next → Counts (put_list put_switch (switches_of t used cases ranges)) at next
+      Counts (put_all (λ row. own_switch (B.switch_of row)) (B.cut 3 used t)) mid behind → n ≡ owned 0 3 used t →
+      Counts (put_all (λ row. put_case (B.case_of row)) (B.cut 2 n cases)) behind listed_at → k ≡ owned 1 3 used t →
+      Counts (put_all (λ row. put_range (B.range_of row)) (B.cut 4 k ranges)) listed_at next → Counts (put_list put_switch (switches_of t used cases ranges)) at next
   switches-count {mid = mid} {next = next} long first own exact some same others =
       let a = put_all own_switch wholes in
       let b = put_all put_case (cased (owned 0 3 used t)) in
       let e = put_all put_range (ranged (owned 1 3 used t)) in
-      let all : Counts ((a ++ b) ++ e) mid next = counts-then (counts-then own (rw exact at some)) (rw same at others) in
+      let all : Counts ((a ++ b) ++ e) mid next =
+      counts-then (counts-then (rows-counted own_switch B.switch_of (B.cut 3 used t) own) (rows-counted put_case B.case_of (B.cut 2 (owned 0 3 used t) cases) (rw exact at some)))
+      (rows-counted put_range B.range_of (B.cut 4 (owned 1 3 used t) ranges) (rw same at others)) in
       listed put_switch used (switches_of t used cases ranges) (length-cased wholes _ _ ∙ length-records 3 B.switch_of used t) long first
       (counts_same (length-append (a ++ b) e ∙ (ap (λ (z : ℕ). z + length e) (length-append a b) ∙ sym tables-apart)) all)

@@ -1,23 +1,17 @@
 -- The sizes of constants by their tag.
-use Rattle.std.proofs.Common.{if◌then◌else◌}
 use Prim.Native.Nat.{ℕ, ◌+◌, ◌<◌, min}
-use mathlib.Core.Bool.{Bool, true, false, ◌||◌}
+use mathlib.Core.Bool.{Bool, true, false}
 use mathlib.Core.Path.{◌≡◌, refl, ◌∙◌}
 use mathlib.Core.List.{List, ◌++◌}
 use native.Mathlib.Omega.{arith}
-use lib.Dec.{eqb}
 use lib.ListN.{length, length-append}
-use Rattle.grammar.specs.Number.{shortest, zigzag}
-use Rattle.rows.specs.declared.constants.Kind.{Kind}
-use Rattle.rows.specs.Back.{word, index, signed, text_of, kind_of, constant_of}
-use Rattle.rows.specs.Tree.{kind}
-use Rattle.written.specs.Put.{put_bytes, put_kind}
+use Rattle.rows.specs.Back.{word, text_of, constant_of}
+use Rattle.written.specs.Put.{put_bytes}
 use Rattle.model.specs.Lent.{clip}
 use Rattle.emit.specs.Constants.{head_bytes, foot_bytes}
-use Rattle.emit.specs.Tags.{is_pointer, is_list}
 use Rattle.emit.proofs.Tags.{tagged, by-tag, isnt, is_pointer_lem, pointer-tag}
 use Rattle.sizes.specs.Counts.{Counts}
-use Rattle.sizes.specs.Items.{is_range, has_text, where_used, words_of}
+use Rattle.sizes.specs.Items.{has_text, where_used, words_of}
 
 module _ (row text : List ℕ) where
   abbrev text_of_row : ℕ
@@ -45,25 +39,6 @@ module _ (row text : List ℕ) where
       (simp length-append (omega arith)) (simp length-append (omega arith)) (simp length-append (omega arith)) pointer-sized
 
 -- ── what the code asks ──
-
-pub kind-size : (normal : Bool) (n : ℕ) {size all : ℕ} → size ≡ length (shortest n) → all ≡ (if normal then 1 else 1 + size) →
-    all ≡ length (put_kind (kind (if normal then Kind.Normal else Kind.Script n)))
-kind-size true n s a = a
-kind-size false n s a = omega arith
-
-module _ (row : List ℕ) where
-  abbrev tag : ℕ
-  tag = word row 0
-
-  pub words_size : {range int list pointer : Bool} {from to code n kinds first last char float items behind : ℕ} →
-      range ≡ is_range tag → int ≡ (eqb tag 0x03 || range) → from ≡ length (shortest (zigzag (signed (word row 1)))) → first ≡ where_used int from →
-      to ≡ length (shortest (zigzag (signed (word row 2)))) → last ≡ where_used range to →
-      code ≡ length (shortest (index (word row 1))) → char ≡ where_used (eqb tag 0x05) code → float ≡ where_used (eqb tag 0x04) 8 →
-      list ≡ is_list tag → n ≡ length (shortest (word row 5)) → items ≡ where_used list n →
-      pointer ≡ is_pointer tag → kinds ≡ length (put_kind (kind (kind_of (word row 1) (word row 2)))) → behind ≡ where_used pointer kinds →
-      1 + first + last + char + float + items + behind ≡ words_of tag row
-  words_size range int from first to last code char float list n items pointer kinds behind =
-      rw (first, last, char, float, items, behind, int, range, from, to, code, list, n, pointer, kinds)
 
 -- a text is capped where it is counted from the front
 capped : (told : Bool) (w long at : ℕ) {n size : ℕ} → n ≡ min (0 + long) 1048577 → size ≡ where_used told n →

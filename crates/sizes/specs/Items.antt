@@ -8,7 +8,7 @@ use Rattle.written.specs.Put.{put_kind}
 use Rattle.emit.specs.Constants.{rows_from, put_item}
 use Rattle.emit.specs.Tags.{is_pointer, is_list}
 use Rattle.sizes.specs.Counts.{Counts}
-use Rattle.sizes.specs.declared.constant.Reached.{Reached}
+use Rattle.emit.specs.declared.constant.Behind.{Behind}
 
 abbrev pub is_range : ℕ → Bool
 is_range tag = eqb tag 0x0A || eqb tag 0x0B
@@ -30,7 +30,7 @@ words_of tag row =
     + where_used (is_pointer tag) (length (put_kind (kind (kind_of (word row 1) (word row 2)))))
 
 -- n constants are counted, and the next row is the one behind all that they own
-pub record CountsItems (text : List ℕ) (keys : Bool) (levels n : ℕ) (t : List ℕ) (used from at : ℕ) (r : Reached) : Type 0 where
+pub record CountsItems (text : List ℕ) (keys : Bool) (levels n : ℕ) (t : List ℕ) (used from at : ℕ) (r : Behind) : Type 0 where
   pub few : r.next ≤ used
   pub rest : rows_from t used r.next ≡ (grow levels n (rows_from t used from)).rest
   pub counts : Counts (put_all (put_item text keys levels) (grow levels n (rows_from t used from)).trees) at r.place

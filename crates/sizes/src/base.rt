@@ -5,6 +5,7 @@ ghost use Rattle.written.specs.Put.{put_bytes};
 ghost use Rattle.model.specs.Lent.{clip};
 ghost use Rattle.sizes.specs.Counts.{Counts};
 
+use emit::base::clipped;
 use format::tags::Limit;
 use grammar::Span;
 
@@ -19,19 +20,13 @@ pub fn choose(yes: bool, n: usize, other: usize) -> usize
     if yes { n } else { other }
 }
 
-pub fn least(n: usize, most: usize) -> usize
-    ensures { result ≡ min n most }
-{
-    if n < most { n } else { most }
-}
-
 // The place n bytes on; neither place nor number is so high that the sum wraps.
 pub fn plus(at: usize, n: usize) -> usize
     requires at_bound { at ≤ 1048577 }
     requires n_bound { n ≤ 2000000 }
     ensures { result ≡ min (at + n) 1048577 }
 {
-    least(at + n, PAST)
+    (at + n).min(PAST)
 }
 
 // The sizes of numbers and of rows have a bound beside them, so that no sum of them wraps.
@@ -42,19 +37,11 @@ pub fn number(v: u64) -> usize
     varint::size(v)
 }
 
-// How many bytes a span has; what lies past the end of the text is not there.
-fn clipped(s: &[u8], span: Span) -> usize
-    ensures { result ≡ length (clip s.now span) }
-{
-    let start = least(span.start, s.len());
-    least(span.size, s.len() - start)
-}
-
 // A count of bytes and the bytes; past the limit no more of them need be counted.
 pub fn text(at: usize, s: &[u8], span: Span) -> usize
     requires { at ≤ 1048577 }
     ensures { Counts (put_bytes (clip s.now span)) at result }
 {
     let n = clipped(s, span);
-    plus(at, number(n as u64) + least(n, PAST))
+    plus(at, number(n as u64) + n.min(PAST))
 }

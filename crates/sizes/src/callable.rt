@@ -1,18 +1,17 @@
 // Custom sites and functions without their items; and inputs and parameters, by themselves.
-ghost use Rattle.std.specs.Prelude.{◌≡◌, ◌*◌, ◌≤◌, length};
-ghost use Rattle.grammar.specs.Combinators.{put_all};
-ghost use Rattle.rows.specs.Back as rows;
+ghost use Rattle.std.specs.Prelude.{◌≡◌, ◌≤◌};
+ghost use Rattle.rows.specs.Back as back;
 ghost use Rattle.written.specs.Put as definition;
 ghost use Rattle.emit.specs.Shares as shares;
 ghost use Rattle.sizes.specs.Counts.{Counts};
 ghost use Rattle.sizes.specs.Own.{own_site, own_function};
 
 use crate::base::{number, plus};
-use crate::lists::indices;
+use crate::record::{Counted, rows};
 use crate::words::{index, small};
+use emit::callable::{Function, Input, Parameter, Site};
 use emit::numbers::{told, typed};
 use format::records::Chunk;
-use rows::row;
 
 pub fn chunk(at: usize, c: Chunk) -> usize
     requires { at ≤ 1048577 }
@@ -25,48 +24,39 @@ pub fn chunk(at: usize, c: Chunk) -> usize
 }
 
 // Chunk and literal.
-fn input(row: [u64; 5]) -> usize
-    ensures value { result ≡ length (definition.put_input (rows.input_of row)) }
-    ensures upper_bound { result ≤ 100 }
-{
-    index(row[0]) + index(row[1]) + small(row[2]) + number(told(row[3], row[4]))
-}
+impl Counted<5> for Input {
+    ghost bytes = { λ i row. definition.put_input (back.input_of row) };
 
-fn input_rows(at: usize, t: &[u64], used: usize) -> usize
-    requires at_bound { at ≤ 1048577 }
-    requires used_in_bounds { used * 5 ≤ length t.now }
-    ensures { Counts (put_all definition.put_input (rows.records_of 5 rows.input_of used t.now)) at result }
-{
-    let mut place = at;
-    let mut j: usize = 0;
-    while j < used {
-        place = plus(place, input(row::of_five(t, j * 5)));
-        j += 1;
+    fn count(&self, at: usize, row: [u64; 5]) -> usize
+        requires { at ≤ 1048577 }
+        ensures { Counts (definition.put_input (back.input_of row)) at result }
+    {
+        let literal = number(told(row[3], row[4]));
+        plus(at, index(row[0]) + index(row[1]) + small(row[2]) + literal)
     }
-    place
 }
 
-// Key, state, how many inputs.
-fn site(row: [u64; 3]) -> usize
-    ensures value { result ≡ length (own_site (rows.site_of row)) }
-    ensures upper_bound { result ≤ 100 }
-{
-    index(row[0]) + index(row[1]) + number(row[2])
-}
+impl Counted<1> for Parameter {
+    ghost bytes = { λ p row. definition.put_name (back.parameter_of row) };
 
-// Without their inputs.
-fn site_rows(at: usize, t: &[u64], used: usize) -> usize
-    requires at_bound { at ≤ 1048577 }
-    requires used_in_bounds { used * 3 ≤ length t.now }
-    ensures { Counts (put_all own_site (rows.records_of 3 rows.site_of used t.now)) at result }
-{
-    let mut place = at;
-    let mut j: usize = 0;
-    while j < used {
-        place = plus(place, site(row::of_three(t, j * 3)));
-        j += 1;
+    fn count(&self, at: usize, row: [u64; 1]) -> usize
+        requires { at ≤ 1048577 }
+        ensures { Counts (definition.put_name (back.parameter_of row)) at result }
+    {
+        plus(at, index(row[0]))
     }
-    place
+}
+
+// Key, state, how many inputs: without them.
+impl Counted<3> for Site {
+    ghost bytes = { λ s row. own_site (back.site_of row) };
+
+    fn count(&self, at: usize, row: [u64; 3]) -> usize
+        requires { at ≤ 1048577 }
+        ensures { Counts (own_site (back.site_of row)) at result }
+    {
+        plus(at, index(row[0]) + index(row[1]) + number(row[2]))
+    }
 }
 
 // The section. That the sites own all the inputs, and no more, was tested before.
@@ -76,32 +66,21 @@ pub fn sites(at: usize, t: &[u64], used: usize, inputs: &[u64], owned: usize) ->
     requires owned_value { owned ≡ shares.owned 2 3 used t.now }
     ensures { Counts (definition.put_list definition.put_site (shares.sites_of t.now used inputs.now)) at result }
 {
-    let behind = site_rows(plus(at, number(used as u64)), t, used);
-    input_rows(behind, inputs, owned)
+    let behind = rows(plus(at, number(used as u64)), &Site, t, used);
+    rows(behind, &Input, inputs, owned)
 }
 
-// Name, access in one byte, this_type, how many parameters, chunk.
-fn function(row: [u64; 7]) -> usize
-    ensures value { result ≡ length (own_function (rows.function_of row)) }
-    ensures upper_bound { result ≤ 100 }
-{
-    let told = index(row[0]) + 1 + number(typed(row[2])) + number(row[3]);
-    told + index(row[4]) + index(row[5]) + small(row[6])
-}
+// Name, access in one byte, this_type, how many parameters, chunk: without the parameters.
+impl Counted<7> for Function {
+    ghost bytes = { λ f row. own_function (back.function_of row) };
 
-// Without their parameters.
-fn function_rows(at: usize, t: &[u64], used: usize) -> usize
-    requires at_bound { at ≤ 1048577 }
-    requires used_in_bounds { used * 7 ≤ length t.now }
-    ensures { Counts (put_all own_function (rows.records_of 7 rows.function_of used t.now)) at result }
-{
-    let mut place = at;
-    let mut j: usize = 0;
-    while j < used {
-        place = plus(place, function(row::of_seven(t, j * 7)));
-        j += 1;
+    fn count(&self, at: usize, row: [u64; 7]) -> usize
+        requires { at ≤ 1048577 }
+        ensures { Counts (own_function (back.function_of row)) at result }
+    {
+        let told = index(row[0]) + 1 + number(typed(row[2])) + number(row[3]);
+        plus(at, told + index(row[4]) + index(row[5]) + small(row[6]))
     }
-    place
 }
 
 // The section. That the functions own all the parameters, and no more, was tested before.
@@ -111,6 +90,6 @@ pub fn functions(at: usize, t: &[u64], used: usize, parameters: &[u64], owned: u
     requires owned_value { owned ≡ shares.owned 3 7 used t.now }
     ensures { Counts (definition.put_list definition.put_function (shares.functions_of t.now used parameters.now)) at result }
 {
-    let behind = function_rows(plus(at, number(used as u64)), t, used);
-    indices(behind, parameters, owned)
+    let behind = rows(plus(at, number(used as u64)), &Function, t, used);
+    rows(behind, &Parameter, parameters, owned)
 }

@@ -1,7 +1,6 @@
 // Chains: where they start, how many operands and steps they have, what they do at the end; and their steps, by themselves.
-ghost use Rattle.std.specs.Prelude.{◌≡◌, ◌*◌, ◌≤◌, length};
-ghost use Rattle.grammar.specs.Combinators.{put_all};
-ghost use Rattle.rows.specs.Back.{records_of, chain_of, step_of, index_of, property_of, method_of};
+ghost use Rattle.std.specs.Prelude.{◌≡◌, ◌≤◌, length};
+ghost use Rattle.rows.specs.Back.{chain_of, step_of, index_of, property_of, method_of};
 ghost use Rattle.written.specs.Put as definition;
 ghost use Rattle.emit.specs.Shares as shares;
 ghost use Rattle.emit.specs.Ways.{root_in, put_step_in, chains_in};
@@ -9,9 +8,10 @@ ghost use Rattle.sizes.specs.Counts.{Counts};
 ghost use Rattle.sizes.specs.Own.{own_chain};
 
 use crate::base::{choose, number, plus};
+use crate::record::{Counted, rows};
 use crate::words::{index, position, small};
+use emit::chain::{Chain, Step};
 use format::tags::{RootTag, StepTag, TailTag};
-use rows::row;
 
 // The tag, the flags, an operand and two positions.
 fn index_step(strip: bool, row: [u64; 11]) -> usize
@@ -50,18 +50,15 @@ fn step(strip: bool, row: [u64; 11]) -> usize
     choose(tag == StepTag::INDEX as u64, index_step(strip, row), other)
 }
 
-fn step_rows(at: usize, strip: bool, t: &[u64], used: usize) -> usize
-    requires at_bound { at ≤ 1048577 }
-    requires used_in_bounds { used * 11 ≤ length t.now }
-    ensures { Counts (put_all (put_step_in strip) (records_of 11 step_of used t.now)) at result }
-{
-    let mut place = at;
-    let mut j: usize = 0;
-    while j < used {
-        place = plus(place, step(strip, row::of_eleven(t, j * 11)));
-        j += 1;
+impl Counted<11> for Step {
+    ghost bytes = { λ k row. put_step_in k.strip (step_of row) };
+
+    fn count(&self, at: usize, row: [u64; 11]) -> usize
+        requires { at ≤ 1048577 }
+        ensures { Counts (put_step_in self.now.strip (step_of row)) at result }
+    {
+        plus(at, step(self.strip, row))
     }
-    place
 }
 
 fn root(strip: bool, row: [u64; 9]) -> usize
@@ -86,26 +83,19 @@ fn tail(row: [u64; 9]) -> usize
     choose(tag == TailTag::READ as u64, 1, other)
 }
 
-fn chain(strip: bool, row: [u64; 9]) -> usize
-    ensures value { result ≡ length (own_chain strip (chain_of row)) }
-    ensures upper_bound { result ≤ 1000 }
-{
-    root(strip, row) + small(row[5]) + number(row[6]) + tail(row)
-}
+// Without its steps.
+impl Counted<9> for Chain {
+    ghost bytes = { λ c row. own_chain c.strip (chain_of row) };
 
-// Without their steps.
-fn chain_rows(at: usize, strip: bool, t: &[u64], used: usize) -> usize
-    requires at_bound { at ≤ 1048577 }
-    requires used_in_bounds { used * 9 ≤ length t.now }
-    ensures { Counts (put_all (own_chain strip) (records_of 9 chain_of used t.now)) at result }
-{
-    let mut place = at;
-    let mut j: usize = 0;
-    while j < used {
-        place = plus(place, chain(strip, row::of_nine(t, j * 9)));
-        j += 1;
+    fn count(&self, at: usize, row: [u64; 9]) -> usize
+        requires { at ≤ 1048577 }
+        ensures { Counts (own_chain self.now.strip (chain_of row)) at result }
+    {
+        plus(
+            at,
+            root(self.strip, row) + small(row[5]) + number(row[6]) + tail(row),
+        )
     }
-    place
 }
 
 // The section, in the way asked. That the chains own all the steps, and no more, was tested before.
@@ -115,6 +105,6 @@ pub fn chains(at: usize, strip: bool, t: &[u64], used: usize, steps: &[u64], own
     requires owned_value { owned ≡ shares.owned 6 9 used t.now }
     ensures { Counts (definition.put_list definition.put_chain (chains_in strip (shares.chains_of t.now used steps.now))) at result }
 {
-    let behind = chain_rows(plus(at, number(used as u64)), strip, t, used);
-    step_rows(behind, strip, steps, owned)
+    let behind = rows(plus(at, number(used as u64)), &Chain { strip }, t, used);
+    rows(behind, &Step { strip }, steps, owned)
 }

@@ -8,19 +8,12 @@ ghost use Rattle.emit.specs.Constants.{head_bytes, foot_bytes, key_bytes, ItemsS
 ghost use Rattle.sizes.specs.Counts.{Counts};
 ghost use Rattle.sizes.specs.Items.{is_range, has_text, where_used, words_of, CountsItems};
 
-use crate::base::{choose, number, plus, text};
-use crate::words::{index, signed};
-use emit::owning::{either, has_keys, items_of, listed, pointer};
+use crate::base::{choose, number, plus};
+use crate::words::{index, signed, spanned};
+use emit::constant::Behind;
+use emit::owning::{has_keys, items_of, listed, pointer};
 use format::tags::{ConstantTag, Limit, PointerTag};
-use grammar::Span;
 use rows::row;
-
-// The place behind some constants, and the row behind all that they own.
-#[derive(Clone, Copy)]
-pub struct Reached {
-    pub place: usize,
-    pub next: usize,
-}
 
 fn when(yes: bool, n: usize) -> usize
     ensures value { result ≡ where_used yes n }
@@ -32,23 +25,14 @@ fn when(yes: bool, n: usize) -> usize
 fn ranged(tag: u64) -> bool
     ensures { result ≡ is_range tag }
 {
-    either(
-        tag == ConstantTag::RANGE as u64,
-        tag == ConstantTag::RANGE_INCLUSIVE as u64,
-    )
+    tag == ConstantTag::RANGE as u64 || tag == ConstantTag::RANGE_INCLUSIVE as u64
 }
 
 // A string, a blob and a function pointer.
 fn texted(tag: u64) -> bool
     ensures { result ≡ has_text tag }
 {
-    either(
-        pointer(tag),
-        either(
-            tag == ConstantTag::STRING as u64,
-            tag == ConstantTag::BLOB as u64,
-        ),
-    )
+    pointer(tag) || tag == ConstantTag::STRING as u64 || tag == ConstantTag::BLOB as u64
 }
 
 // A function pointer's kind.
@@ -66,10 +50,7 @@ fn words(row: [u64; 8]) -> usize
 {
     let tag = row[0];
     let range = ranged(tag);
-    let first = when(
-        either(tag == ConstantTag::INT as u64, range),
-        signed(row[1]),
-    );
+    let first = when(tag == ConstantTag::INT as u64 || range, signed(row[1]));
     let last = when(range, signed(row[2]));
     let code = when(tag == ConstantTag::CHAR as u64, index(row[1]));
     let float = when(tag == ConstantTag::FLOAT as u64, 8);
@@ -83,11 +64,7 @@ fn constant(at: usize, s: &[u8], row: [u64; 8]) -> usize
     requires { at ≤ 1048577 }
     ensures { Counts (head_bytes s.now (constant_of row) ++ foot_bytes (constant_of row)) at result }
 {
-    let span = Span {
-        start: row[3] as usize,
-        size: row[4] as usize,
-    };
-    let told = when(texted(row[0]), text(0, s, span));
+    let told = when(texted(row[0]), spanned(0, s, row[3], row[4]));
     plus(at, words(row) + told)
 }
 
@@ -96,11 +73,11 @@ fn key(at: usize, s: &[u8], keys: bool, row: [u64; 8]) -> usize
     requires { at ≤ 1048577 }
     ensures { Counts (key_bytes s.now keys (keyed_of row).key) at result }
 {
-    let span = Span {
-        start: row[6] as usize,
-        size: row[7] as usize,
-    };
-    if keys { text(at, s, span) } else { at }
+    if keys {
+        spanned(at, s, row[6], row[7])
+    } else {
+        at
+    }
 }
 
 // n constants from a row on, each with all that it owns, one level deeper; a map's have keys.
@@ -113,16 +90,15 @@ fn items(
     keys: bool,
     deep: usize,
     s: &[u8],
-) -> Reached
+) -> Behind
     requires at_bound { at ≤ 1048577 }
     requires items_stand { ItemsStand deep n t.now used from }
     ensures { CountsItems s.now keys deep n t.now used from at result }
 {
     let mut place = at;
     let mut next = from;
-    let mut left = n;
-    while 0 < left {
-        let row = row::of_eight(t, next * 8);
+    for _ in 0..n {
+        let row = row::of(t, next * 8);
         let behind = constant(key(place, s, keys, row), s, row);
         let own = items_of(row);
         if own == 0 {
@@ -133,9 +109,8 @@ fn items(
             place = inner.place;
             next = inner.next;
         }
-        left -= 1;
     }
-    Reached { place, next }
+    Behind { place, next }
 }
 
 // The section: the top constants. The counts, the tags and the depth were tested before.

@@ -8,5 +8,6 @@ pub mod callable;
 pub mod chain;
 pub mod constant;
 pub mod lists;
+mod record;
 pub mod switch;
 mod words;

@@ -2,11 +2,14 @@
 ghost use Rattle.std.specs.Prelude.{◌≡◌, ◌≤◌, length};
 ghost use Rattle.grammar.specs.Number.{shortest, zigzag};
 ghost use Rattle.rows.specs.Back as definition;
-ghost use Rattle.written.specs.Put.{put_position};
+ghost use Rattle.written.specs.Put.{put_bytes, put_position};
+ghost use Rattle.model.specs.Lent.{clip};
 ghost use Rattle.emit.specs.Ways.{position_in};
+ghost use Rattle.sizes.specs.Counts.{Counts};
 
-use crate::base::number;
+use crate::base::{number, text};
 use emit::numbers::{beside, folded, shown};
+use grammar::Span;
 
 pub fn small(w: u64) -> usize
     ensures value { result ≡ length (shortest (definition.small w)) }
@@ -35,4 +38,16 @@ pub fn position(strip: bool, line: u64, column: u64) -> usize
 {
     let row = shown(strip, line);
     number(row) + number(beside(row, column))
+}
+
+// The bytes of a span and their count.
+pub fn spanned(at: usize, s: &[u8], start: u64, size: u64) -> usize
+    requires { at ≤ 1048577 }
+    ensures { Counts (put_bytes (clip s.now (record { start = start; size = size }))) at result }
+{
+    let span = Span {
+        start: start as usize,
+        size: size as usize,
+    };
+    text(at, s, span)
 }

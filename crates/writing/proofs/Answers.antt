@@ -9,34 +9,26 @@ use borrow.Author.Tests.{le-leb, lt-leb}
 use lib.ListN.{length, take, drop}
 use lib.Seq.{length-take-le, take_all}
 use Rattle.refusal.specs.declared.Refusal.{Refusal}
-use Rattle.varint.specs.declared.Written.{Written}
-use Rattle.model.specs.Lent.{Lent, lent, constant_rows, chain_rows, every}
+use Rattle.std.specs.Prelude.{Result, Ok, Err}
+use Rattle.model.specs.Lent.{Lent, constant_rows, chain_rows, every}
 use Rattle.model.specs.Rules.{known_constant, known_chain}
-use Rattle.model.specs.Tables.{meaning_of}
 use Rattle.model.specs.Written.{bytes_of, broken_of_ten, rule11, lowest_broken, else_eleven, Writes, answered, left}
 use Rattle.rules.proofs.Both.{both}
+use Rattle.std.specs.Result.{IsErrAnd}
+use Rattle.std.proofs.lemmas.Result.{err_from_is_err_and}
+use Rattle.judging.specs.Judged.{judged}
 use Rattle.judging.proofs.Kept.{kept}
 use Rattle.emit.specs.Puts.{Puts}
 use Rattle.writing.specs.Ready.{Ready}
 
 -- ── where no rule of the ten is broken ──
 
--- the same tables, whatever is said of the numbers outside them: that is no part of what is put
-abbrev pub saying : Bool → Lent → Lent
-saying fit m =
-    lent m.outside fit m.ends m.constants m.tokens m.assigns m.chains m.steps m.switches m.cases m.ranges
-    m.customs m.inputs m.functions m.parameters m.text
-
-pub ready : {m : Lent} (mask : ℕ) (fit : Bool) → broken_of_ten mask (saying fit m) ≡ 0 → Ready m
-ready {m} mask fit none =
-    let k = kept mask (saying fit m) none in
+pub ready : {m : Lent} (mask : ℕ) → broken_of_ten mask m ≡ 0 → Ready m
+ready {m} mask none =
+    let k = kept mask m none in
     let trees = every known_constant (constant_rows m) in
     let known = both (trees && every known_chain (chain_rows m)) _ k.five in
     record { counted = k.one; known = (both trees _ known.first).first; shallow = k.six }
-
-same_bytes_lem : (stripped : Bool) (m : Lent) → bytes_of stripped (saying true m) ≡ bytes_of stripped m
-unfolding bytes_of meaning_of
-same_bytes_lem stripped m = refl
 
 -- ── what is answered and left ──
 
@@ -54,41 +46,60 @@ all-put out size {bytes} {exit} p long room =
     sym (take_all (0 + length bytes) exit (omega (arith, p.kept))) ∙ p.stored (omega arith)
 
 -- a count that is not past the longest file is the length
-whole : (stripped : Bool) (m : Lent) (size : ℕ) → size ≡ min (length (bytes_of stripped (saying true m))) 1048577 → size ≤ 1048576 →
+whole : (stripped : Bool) (m : Lent) (size : ℕ) → size ≡ min (length (bytes_of stripped m)) 1048577 → size ≤ 1048576 →
     length (bytes_of stripped m) ≡ size
-whole stripped m size is short = rw (← same_bytes_lem stripped m) (omega (arith, is))
+whole stripped m size is short = omega (arith, is)
+
+-- what judging answers of the lowest broken rule
+pub judged-sound : (rule : ℕ) {r : Result (Unit {0}) Refusal} → r ≡ judged rule → r ≡ Ok tt → rule ≡ 0
+judged-sound zero is e = refl
+judged-sound (suc rule) {r} is e = let no : ◌≡◌ {A = Result (Unit {0}) Refusal} (Err (Refusal.BadModel (suc rule))) (Ok tt) = sym is ∙ e in absurd cc
 
 module _ {mask : ℕ} {stripped : Bool} {m : Lent} {out : List ℕ} where
-  writes-by : {exit : List ℕ} {r : Written} (rule : ℕ) → lowest_broken mask stripped m ≡ rule → r ≡ answered rule (bytes_of stripped m) out →
+  writes-by : {exit : List ℕ} {r : Result ℕ Refusal} (rule : ℕ) → lowest_broken mask stripped m ≡ rule → r ≡ answered rule (bytes_of stripped m) out →
       exit ≡ left rule (bytes_of stripped m) out → Writes mask stripped m out exit r
   writes-by rule is answers leaves = record { result = rw is answers; output = rw is leaves }
 
   -- one of the ten is broken
-  pub writes-broken : (rule : ℕ) → broken_of_ten mask m ≡ rule → (rule ≡ 0 → ⊥) → Writes mask stripped m out out (Written.Refused (Refusal.BadModel rule))
+  pub writes-broken : (rule : ℕ) → broken_of_ten mask m ≡ rule → (rule ≡ 0 → ⊥) → Writes mask stripped m out out (Err (Refusal.BadModel rule))
   writes-broken zero is h = absurd (h refl)
   writes-broken (suc rule) is h = writes-by (suc rule) (lowest mask stripped m (suc rule) _ is refl) refl refl
 
+  -- as judging answers it
+  pub writes-judged : {r : Result (Unit {0}) Refusal} {why : Refusal} {answer : Result ℕ Refusal} → r ≡ judged (broken_of_ten mask m) → r ≡ Err why →
+      IsErrAnd answer (λ x. x ≡ why) → Writes mask stripped m out out answer
+  writes-judged {r} {why} {answer} is e told =
+      let p = err_from_is_err_and answer told in
+      rw (p.1, p.2) (go (broken_of_ten mask m) refl (sym is ∙ e))
+    where
+      go : (rule : ℕ) → broken_of_ten mask m ≡ rule → judged rule ≡ Err why → Writes mask stripped m out out (Err why)
+      go zero same e = let no : ◌≡◌ {A = Result (Unit {0}) Refusal} (Ok tt) (Err why) = e in absurd cc
+      go (suc rule) same e =
+          let these : ◌≡◌ {A = Result (Unit {0}) Refusal} (Err (Refusal.BadModel (suc rule))) (Err why) = e in
+          let one : Refusal.BadModel (suc rule) ≡ why = cc in
+          rw (← one) (writes-broken (suc rule) same (λ z. omega arith))
+
   -- too long
-  pub writes-long : {size : ℕ} → broken_of_ten mask m ≡ 0 → size ≡ min (length (bytes_of stripped (saying true m))) 1048577 → 1048576 < size →
-      Writes mask stripped m out out (Written.Refused (Refusal.BadModel 11))
+  pub writes-long : {size : ℕ} → broken_of_ten mask m ≡ 0 → size ≡ min (length (bytes_of stripped m)) 1048577 → 1048576 < size →
+      Writes mask stripped m out out (Err (Refusal.BadModel 11))
   writes-long ten is h =
-      let past : 1048576 < length (bytes_of stripped m) = rw (← same_bytes_lem stripped m) (omega (arith, is)) in
+      let past : 1048576 < length (bytes_of stripped m) = omega (arith, is) in
       writes-by 11 (lowest mask stripped m 0 false ten (lt-leb _ _ past)) refl refl
 
   -- no room
-  pub writes-none : {size : ℕ} → broken_of_ten mask m ≡ 0 → size ≡ min (length (bytes_of stripped (saying true m))) 1048577 → size ≤ 1048576 → length out < size →
-      Writes mask stripped m out out (Written.Refused (Refusal.NoRoom size))
+  pub writes-none : {size : ℕ} → broken_of_ten mask m ≡ 0 → size ≡ min (length (bytes_of stripped m)) 1048577 → size ≤ 1048576 → length out < size →
+      Writes mask stripped m out out (Err (Refusal.NoRoom size))
   writes-none {size} ten is short full =
       let all = whole stripped m size is short in
       let none = lt-leb _ _ (rw (← all) at full) in
       writes-by 0 (lowest mask stripped m 0 true ten (le-leb _ _ (rw (← all) at short))) (rw (none, all)) (rw none)
 
   -- the bytes are put
-  pub writes-all : {size next : ℕ} {exit : List ℕ} → broken_of_ten mask m ≡ 0 → size ≡ min (length (bytes_of stripped (saying true m))) 1048577 → size ≤ 1048576 →
-      size ≤ length out → Puts (bytes_of stripped (saying true m)) (take size out) 0 exit next → Writes mask stripped m out (exit ++ drop size out) (Written.Done size)
+  pub writes-all : {size next : ℕ} {exit : List ℕ} → broken_of_ten mask m ≡ 0 → size ≡ min (length (bytes_of stripped m)) 1048577 → size ≤ 1048576 →
+      size ≤ length out → Puts (bytes_of stripped m) (take size out) 0 exit next → Writes mask stripped m out (exit ++ drop size out) (Ok size)
   writes-all {size} ten is short fits p =
       let all = whole stripped m size is short in
       let long = rw (← all) at short in
       let room = rw (← all) at fits in
       writes-by 0 (lowest mask stripped m 0 true ten (le-leb _ _ long)) (rw (le-leb _ _ room, all))
-      (rw (le-leb _ _ room, all) (ap (λ (l : List ℕ). l ++ drop size out) (all-put out size (rw (same_bytes_lem stripped m) at p) all fits)))
+      (rw (le-leb _ _ room, all) (ap (λ (l : List ℕ). l ++ drop size out) (all-put out size p all fits)))

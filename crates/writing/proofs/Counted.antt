@@ -13,7 +13,8 @@ use Rattle.sizes.specs.Counts.{Counts}
 use Rattle.sizes.proofs.Laws.{counts-then, counts_same}
 use Rattle.writing.specs.Ready.{Ready}
 use Rattle.writing.proofs.Rows.{exact}
-use Rattle.writing.proofs.Joined.{front_of, back_of, joined}
+use Rattle.writing.specs.Halves.{front_of, back_of}
+use Rattle.writing.proofs.Joined.{joined}
 
 -- a header is as long as any
 pub header-counts : (h : Header) → Counts (put_header (header_of h)) 0 28

@@ -14,7 +14,7 @@ use Rattle.model.specs.Written.{in_way, bytes_of}
 use Rattle.emit.specs.Puts.{Puts}
 use Rattle.emit.proofs.Laws.{puts-same, puts_then}
 use Rattle.writing.specs.Ready.{Ready}
-use Rattle.writing.specs.Halves.{put_front, put_back, front_bytes, back_bytes}
+use Rattle.writing.specs.Halves.{put_front, put_back, front_of, back_of}
 use Rattle.writing.proofs.Rows.{Exact, exact}
 
 -- ── of a meaning ──
@@ -44,24 +44,17 @@ module _ (p : Meaning) where
 -- ── of tables ──
 
 module _ (m : Lent) where
-  abbrev pub front_of : List ℕ
-  front_of = front_bytes m.outside m.ends m.constants m.tokens m.assigns m.text
-
-  abbrev pub back_of : Bool → List ℕ
-  back_of stripped =
-      back_bytes stripped m.outside m.chains m.steps m.switches m.cases m.ranges m.customs m.inputs m.functions m.parameters m.text
-
-  front-means : (stripped : Bool) → front_of ≡ front (in_way stripped (meaning_of m))
-  unfolding front_bytes strip meaning_of
+  front-means : (stripped : Bool) → front_of m ≡ front (in_way stripped (meaning_of m))
+  unfolding front_of strip meaning_of
   front-means false = refl
   front-means true = refl
 
-  back-means : (stripped : Bool) → Exact m → back_of stripped ≡ back (in_way stripped (meaning_of m))
-  unfolding back_bytes strip meaning_of
+  back-means : (stripped : Bool) → Exact m → back_of m stripped ≡ back (in_way stripped (meaning_of m))
+  unfolding back_of strip meaning_of
   back-means false x = rw (x.steps, x.cases, x.ranges, x.inputs, x.parameters)
   back-means true x = rw (x.steps, x.cases, x.ranges, x.inputs, x.parameters)
 
-  pub joined : (stripped : Bool) → Exact m → front_of ++ back_of stripped ≡ bytes_of stripped m
+  pub joined : (stripped : Bool) → Exact m → front_of m ++ back_of m stripped ≡ bytes_of stripped m
   unfolding bytes_of
   joined stripped x = alike (front-means stripped) (back-means stripped x) ∙ halves (in_way stripped (meaning_of m))
 

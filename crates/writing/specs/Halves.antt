@@ -4,7 +4,6 @@ use Rattle.grammar.specs.Number.{shortest}
 use Rattle.grammar.specs.declared.Span.{Span}
 use Rattle.tables.specs.Table.{With}
 use Rattle.format.specs.Artifact as A
-use Rattle.format.specs.declared.answer.Artifact.{Artifact}
 use Rattle.format.specs.declared.records.NameIndex.{NameIndex}
 use Rattle.format.specs.declared.records.Chunk.{Chunk}
 use Rattle.format.specs.declared.records.Step.{Step}
@@ -14,7 +13,7 @@ use Rattle.format.specs.declared.records.Site.{Site}
 use Rattle.format.specs.declared.records.Function.{Function}
 use Rattle.rows.specs.Back.{records_of, end_of, span_of, assign_of}
 use Rattle.written.specs.Put.{put_header, put_bytes, put_list, put_constant, put_assign, put_chain, put_switch, put_site, put_chunk, put_function}
-use Rattle.model.specs.Lent.{clip}
+use Rattle.model.specs.Lent.{Lent, clip}
 use Rattle.model.specs.Tables.{assign_means}
 use Rattle.emit.specs.Ways.{chains_in}
 use Rattle.emit.specs.Headers.{header_of}
@@ -45,29 +44,30 @@ put_back chains switches customs main functions code positions =
 
 -- ── of tables ──
 
-unfoldable pub front_bytes : Artifact → (ends constants tokens assigns text : List ℕ) → List ℕ
-front_bytes o ends constants tokens assigns text =
-    put_front
-    (header_of o.header)
-    (clip text o.source)
-    (records_of 1 end_of o.used.names ends)
-    (clip text o.blob)
-    (constants_of text constants o.used.constants o.tops)
-    (records_of 2 (λ row. clip text (span_of row)) o.used.tokens tokens)
-    (records_of 6 (λ row. assign_means text (assign_of row)) o.used.assigns assigns)
-
 -- a stripped artifact has an empty table
 abbrev pub table_in : Bool → List ℕ → Span → List ℕ
 table_in false text span = clip text span
 table_in true text span = []
 
-unfoldable pub back_bytes : Bool → Artifact → (chains steps switches cases ranges customs inputs functions parameters text : List ℕ) → List ℕ
-back_bytes stripped o chains steps switches cases ranges customs inputs functions parameters text =
-    put_back
-    (chains_in stripped (chains_of chains o.used.chains steps))
-    (switches_of switches o.used.switches cases ranges)
-    (sites_of customs o.used.customs inputs)
-    o.main
-    (functions_of functions o.used.functions parameters)
-    (clip text o.code)
-    (table_in stripped text o.positions)
+module _ (m : Lent) where
+  unfoldable pub front_of : List ℕ
+  front_of =
+      put_front
+      (header_of m.outside.header)
+      (clip m.text m.outside.source)
+      (records_of 1 end_of m.outside.used.names m.ends)
+      (clip m.text m.outside.blob)
+      (constants_of m.text m.constants m.outside.used.constants m.outside.tops)
+      (records_of 2 (λ row. clip m.text (span_of row)) m.outside.used.tokens m.tokens)
+      (records_of 6 (λ row. assign_means m.text (assign_of row)) m.outside.used.assigns m.assigns)
+
+  unfoldable pub back_of : Bool → List ℕ
+  back_of stripped =
+      put_back
+      (chains_in stripped (chains_of m.chains m.outside.used.chains m.steps))
+      (switches_of m.switches m.outside.used.switches m.cases m.ranges)
+      (sites_of m.customs m.outside.used.customs m.inputs)
+      m.outside.main
+      (functions_of m.functions m.outside.used.functions m.parameters)
+      (clip m.text m.outside.code)
+      (table_in stripped m.text m.outside.positions)

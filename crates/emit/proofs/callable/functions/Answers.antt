@@ -1,34 +1,12 @@
--- The records before j are put, each with its share of the items (`Sharing`).
-use mathlib.Core.Path.{refl, ◌∙◌, ap}
-use Rattle.rows.specs.Back.{function_of}
-use Rattle.emit.proofs.Sharing.{sharing-none, sharing-row, sharing-items, sharing-more, shared-all}
-use native.Mathlib.Omega.{arith}
+-- The records that the rows mean, each with its share.
+use Rattle.rows.specs.Back.{cut, function_of, parameter_of}
+use Rattle.written.specs.Put.{put_function}
+use Rattle.emit.specs.Shares.{owned}
+use Rattle.emit.proofs.Laws.{puts-same}
+use Rattle.emit.proofs.Sharing.{owners-meant}
 use Rattle.emit.proofs.callable.functions.Goals as goal
-
-pub loop-j-init : goal.loop-j-init
-loop-j-init c =
-    sharing-none c.requires
-
-pub row_of_seven-row-requires : goal.row_of_seven-row-requires
-row_of_seven-row-requires c =
-    sharing-row c.loop-j.invariant c.loop-j-test.true
-
-pub function-place-requires : goal.function-place-requires
-function-place-requires c =
-    sharing-items c.loop-j.invariant (λ row. refl) c.loop-j-test.true (ap function_of c.row_of_seven-row.ensures)
-
-pub overflow_add-from : goal.overflow_add-from
-overflow_add-from c =
-    omega (arith, sharing-items c.loop-j.invariant (λ row. refl) c.loop-j-test.true (ap function_of c.row_of_seven-row.ensures))
-
-pub loop-j-preserved : goal.loop-j-preserved
-loop-j-preserved c =
-    sharing-more c.loop-j.invariant (λ row. refl) c.loop-j-test.true (ap function_of c.row_of_seven-row.ensures) c.function-place.ensures
-
-pub shape_of-out : goal.shape_of-out
-shape_of-out c =
-    c.loop-j.invariant.going.same ∙ c.number-place.ensures.kept
 
 pub returns : goal.returns
 returns c =
-    shared-all c.number-place.ensures c.loop-j.invariant c.loop-j-test.false
+    let a = c.args in
+    puts-same (owners-meant put_function (λ x. x.parameters) function_of parameter_of (cut 7 a.used a.t.now) (cut 1 (owned 3 7 a.used a.t.now) a.parameters.now)) c.owners.ensures

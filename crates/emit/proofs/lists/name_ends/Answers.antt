@@ -1,24 +1,9 @@
--- The rows before j are put (`Listing`).
-use mathlib.Core.Path.{◌∙◌}
-use Rattle.emit.proofs.Listing.{listing-all, listing-row, listing-more, listed-all}
+-- What the rows mean.
+use Rattle.grammar.specs.Number.{shortest}
+use Rattle.rows.specs.Back.{end_of}
+use Rattle.emit.proofs.Listing.{rows-meant}
 use Rattle.emit.proofs.lists.name_ends.Goals as goal
-
-pub loop-j-init : goal.loop-j-init
-loop-j-init c =
-    listing-all c.args.used c.requires
-
-pub row_of_one-row-requires : goal.row_of_one-row-requires
-row_of_one-row-requires c =
-    listing-row c.loop-j.invariant c.loop-j-test.true
-
-pub loop-j-preserved : goal.loop-j-preserved
-loop-j-preserved c =
-    listing-more c.loop-j.invariant c.loop-j-test.true (rw c.row_of_one-row.ensures at c.index-place.ensures)
-
-pub shape_of-out : goal.shape_of-out
-shape_of-out c =
-    c.loop-j.invariant.going.same ∙ c.number-place.ensures.kept
 
 pub returns : goal.returns
 returns c =
-    listed-all c.args.used c.number-place.ensures c.loop-j.invariant c.loop-j-test.false
+    rows-meant shortest end_of _ c.list.ensures

@@ -9,4 +9,4 @@ use Rattle.sizes.proofs.callable.sites.Goals as goal
 
 pub returns : goal.returns
 returns c =
-    let a = c.args in shares-count put_site own_site put_input (λ u. u.inputs) site-apart 2 3 site_of a.used a.t.now 5 input_of a.inputs.now (λ row. refl) c.number.ensures.value c.plus.ensures c.site_rows-behind.ensures c.requires.owned_value c.input_rows.ensures
+    let a = c.args in shares-count put_site own_site put_input (λ u. u.inputs) site-apart 2 3 site_of a.used a.t.now 5 input_of a.inputs.now (λ row. refl) c.number.ensures.value c.plus.ensures c.rows-behind.ensures c.requires.owned_value c.rows.ensures

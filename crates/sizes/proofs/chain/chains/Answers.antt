@@ -13,4 +13,4 @@ use Rattle.sizes.proofs.chain.chains.Goals as goal
 
 pub returns : goal.returns
 returns c =
-    let a = c.args in counts_same (ap length (chains-in a.strip (chains_of a.t.now a.used a.steps.now))) (shares-count (put_chain_in a.strip) (own_chain a.strip) (put_step_in a.strip) (λ x. x.steps) (chain-apart a.strip) 6 9 chain_of a.used a.t.now 11 step_of a.steps.now (λ row. refl) c.number.ensures.value c.plus.ensures c.chain_rows-behind.ensures c.requires.owned_value c.step_rows.ensures)
+    let a = c.args in counts_same (ap length (chains-in a.strip (chains_of a.t.now a.used a.steps.now))) (shares-count (put_chain_in a.strip) (own_chain a.strip) (put_step_in a.strip) (λ x. x.steps) (chain-apart a.strip) 6 9 chain_of a.used a.t.now 11 step_of a.steps.now (λ row. refl) c.number.ensures.value c.plus.ensures c.rows-behind.ensures c.requires.owned_value c.rows.ensures)

@@ -4,4 +4,4 @@ use Rattle.sizes.proofs.constant.constant.Goals as goal
 
 pub returns : goal.returns
 returns c =
-    constant-counts c.args.row c.args.s.now c.words.ensures.value c.texted.ensures c.text.ensures c.when-told.ensures.value c.plus.ensures
+    constant-counts c.args.row c.args.s.now c.words.ensures.value c.texted.ensures c.spanned.ensures c.when-told.ensures.value c.plus.ensures

@@ -1,6 +1,0 @@
--- By the tag.
-use Rattle.emit.proofs.owning.listed.Goals as goal
-
-pub returns : goal.returns
-returns c =
-    rw (c.pointer.ensures, c.either.ensures) at c.either-2.ensures
