@@ -6,8 +6,8 @@ use Rattle.refusal.specs.declared.Place.{Place}
 use Rattle.grammar.specs.Outcome.{start, advanced, Outcome, got, refused}
 use Rattle.grammar.specs.Number.{number, signed, shortest}
 use Rattle.position_table.specs.declared.Site.{Site}
-use Rattle.position_table.specs.declared.Checked.{Checked}
-use Rattle.position_table.specs.declared.Resolved.{Resolved}
+use Rattle.std.specs.Prelude.{Result, Ok, Err, Option, None}
+use Rattle.position_table.specs.declared.Position.{Position}
 use Rattle.position_table.specs.Table.{checked, resolved}
 use Rattle.position_table.specs.Encode.{encoded_bytes}
 use Rattle.format.specs.Artifact.{Places, Artifact}
@@ -25,9 +25,9 @@ pub data Case : Type 0 where
   -- these sites are encoded as these bytes, where they have just the room
   encodes : List Site → List ℕ → Case
   -- a position table checks with this answer
-  checks : List ℕ → Checked → Case
+  checks : List ℕ → Result Unit Refusal → Case
   -- an address resolves in a table
-  resolves : List ℕ → ℕ → Resolved → Case
+  resolves : List ℕ → ℕ → Option Position → Case
   -- an artifact is read to its end, or refused; tables of 100 places each, no step flags
   loads : List ℕ → Outcome Unit → Case
   -- and leaves these words in front of a table, which is counted from 0
@@ -120,10 +120,10 @@ cases =
     ∷ signs (0x01 ∷ []) (got (negsuc 0) (advanced start 1))
     ∷ signs (shortest (2 ^ 64 - 1)) (got (negsuc (2 ^ 63 - 1)) (advanced start 10))
     ∷ encodes (site 0 1 1 ∷ site 5 2 300 ∷ []) two
-    ∷ resolves two 3 Resolved.Nothing
-    ∷ checks (0x02 ∷ 0x05 ∷ 0x01 ∷ 0x01 ∷ 0x00 ∷ 0x02 ∷ 0x02 ∷ []) (Checked.Refused (Refusal.Positions (PositionsFault.OutOfOrder 5)))
-    ∷ checks unknown Checked.Sound
-    ∷ resolves unknown 7 Resolved.Nothing
+    ∷ resolves two 3 None
+    ∷ checks (0x02 ∷ 0x05 ∷ 0x01 ∷ 0x01 ∷ 0x00 ∷ 0x02 ∷ 0x02 ∷ []) (Err (Refusal.Positions (PositionsFault.OutOfOrder 5)))
+    ∷ checks unknown (Ok tt)
+    ∷ resolves unknown 7 None
     ∷ loads (0x52 ∷ 0x47 ∷ 0x52 ∷ 0x4E ∷ 0x0B ∷ 0x00 ∷ 0x08 ∷ 0x08 ∷ replicate 35 0) (got tt (advanced start 43))
     ∷ loads (nested 64) (got tt (advanced start 172))
     ∷ loads (nested 65) (refused Refusal.ConstantTooDeep)

@@ -18,7 +18,7 @@ use Rattle.rows.specs.Fits.{Throughout, ThroughoutCases}
 use Rattle.rows.specs.Given.{Back, GivenBack}
 use Rattle.stored.proofs.Stored.{each}
 use Rattle.chains.proofs.Words.{chain-width, step-width}
-use Rattle.callables.proofs.Items.{input-wide}
+use Rattle.callables.proofs.Widths.{input-wide}
 use Rattle.promises.specs.Words.{all_in_front}
 use Rattle.promises.specs.Back.{TablesGive, Begin}
 

@@ -10,7 +10,7 @@ use Rattle.tables.specs.Table.{records, nested, count_items}
 use Rattle.tables.proofs.Fitting.{records-fit, nested-fit}
 use Rattle.format.specs.Artifact as A
 use Rattle.format.specs.File as definition
-use Rattle.reading.proofs.Telling.{behind-all}
+use Rattle.tables.proofs.Got.{behind-all}
 use Rattle.leaves.proofs.Leaves.{Leaves, leaves-pure, leaves-refuse, leaves-then, leaves-bind, leaves-room, leaves-tag, leaves-unknown, leaves-many}
 
 -- ── lists of one table ──

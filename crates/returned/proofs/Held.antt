@@ -15,7 +15,7 @@ use Rattle.format.specs.Artifact as A
 use Rattle.format.specs.Rows as R
 use Rattle.rows.specs.Back.{cut, word}
 use Rattle.chains.proofs.Words.{chain-width, step-width}
-use Rattle.callables.proofs.Items.{input-wide}
+use Rattle.callables.proofs.Widths.{input-wide}
 use Rattle.model.specs.Lent.{every}
 use Rattle.model.specs.Rules.{fits, total}
 use Rattle.reading.specs.Answer.{outside}

@@ -1,4 +1,5 @@
 -- The row of a record that fits keeps the rules on rows: its numbers are sound and its tags are known.
+use Rattle.std.specs.Prelude.{Option, Some, None}
 use Prim.Native.Nat.{ℕ, ◌^◌, ◌≤◌}
 use mathlib.Core.Path.{◌≡◌, refl}
 use mathlib.Core.Bool.{Bool, true, false, not, ◌&&◌, ◌||◌}
@@ -7,7 +8,7 @@ use lib.Dec.{eqb}
 use borrow.Author.Tests.{lt-ltb, le-leb, eq-eqb, ne_eqb}
 use Rattle.grammar.specs.Combinators.{Text}
 use Rattle.format.specs.declared.records.NameIndex.{NameIndex}
-use Rattle.format.specs.declared.records.OptionalPosition.{OptionalPosition}
+use Rattle.format.specs.declared.records.Position.{Position}
 use Rattle.format.specs.declared.records.Chunk.{Chunk}
 use Rattle.format.specs.declared.records.Root.{Root}
 use Rattle.format.specs.declared.records.Tail.{Tail}
@@ -16,11 +17,9 @@ use Rattle.format.specs.declared.records.Chain.{Chain}
 use Rattle.format.specs.declared.records.Case.{Case}
 use Rattle.format.specs.declared.records.Range.{Range}
 use Rattle.format.specs.declared.records.Switch.{Switch}
-use Rattle.format.specs.declared.records.Literal.{Literal}
 use Rattle.format.specs.declared.records.Input.{Input}
 use Rattle.format.specs.declared.records.Site.{Site}
 use Rattle.format.specs.declared.records.Access.{Access}
-use Rattle.format.specs.declared.records.ThisType.{ThisType}
 use Rattle.format.specs.declared.records.Function.{Function}
 use Rattle.format.specs.Artifact as A
 use Rattle.format.specs.Rows as R
@@ -34,9 +33,9 @@ use Rattle.model.specs.Rules.{bits, among, yes_no, sound_position, sound_chunk, 
 fits : {n w : ℕ} → FitsBits n w → bits n w ≡ true
 fits ok = lt-ltb _ _ ok.below
 
-position : (at : OptionalPosition) → FitsPosition at → sound_position (R.line at) (R.column at) ≡ true
-position OptionalPosition.Absent ok = refl
-position (OptionalPosition.At l c) ok = rw (fits ok.1.0, fits ok.1.1, ne_eqb l 0 (omega (arith, ok.0)))
+position : (at : Option Position) → FitsPosition at → sound_position (R.line at) (R.column at) ≡ true
+position None ok = refl
+position (Some at) ok = rw (fits ok.1.0, fits ok.1.1, ne_eqb at.line 0 (omega (arith, ok.0)))
 
 chunk : (c : Chunk) → FitsChunk c → sound_chunk c.entry c.end c.slots ≡ true
 chunk c ok = rw (fits ok.entry, fits ok.end, fits ok.slots)
@@ -92,16 +91,16 @@ sound-site u ok = rw (fits ok.key, fits ok.state)
 pub sound-input : (i : Input) → FitsInput i → sound_input (R.input_row i) ≡ true
 sound-input i ok = go i.literal ok.literal
   where
-    go : (l : Literal) → FitsLiteral l → sound_input (R.input_row (record { chunk = i.chunk; literal = l })) ≡ true
-    go Literal.Absent fit = rw (chunk i.chunk ok.chunk)
-    go (Literal.Present index) fit = rw (chunk i.chunk ok.chunk, lt-ltb index 0xFFFFFFFF fit)
+    go : (l : Option ℕ) → FitsLiteral l → sound_input (R.input_row (record { chunk = i.chunk; literal = l })) ≡ true
+    go None fit = rw (chunk i.chunk ok.chunk)
+    go (Some index) fit = rw (chunk i.chunk ok.chunk, lt-ltb index 0xFFFFFFFF fit)
 
 pub sound-function : (f : Function) → FitsFunction f → sound_function (R.function_row f) ≡ true
 sound-function f ok = rw (fits ok.name, le-leb _ (2 ^ 32) (this f.this_type ok.this), chunk f.chunk ok.chunk)
   where
-    this : (t : ThisType) → FitsThis t → R.this_word t ≤ 2 ^ 32
-    this ThisType.Untyped fit = omega arith
-    this (ThisType.Typed index) fit = omega (arith, fit.below)
+    this : (t : Option ℕ) → FitsThis t → R.this_word t ≤ 2 ^ 32
+    this None fit = omega arith
+    this (Some index) fit = omega (arith, fit.below)
 
 pub sound-parameter : (n : NameIndex) → FitsName n → sound_word (R.parameter_row n) ≡ true
 sound-parameter n ok = fits ok

@@ -11,7 +11,8 @@ use lib.Dec.{ltb, eqb}
 use borrow.Author.Tests.{lt-ltb, eq-eqb}
 use Rattle.grammar.specs.declared.Span.{Span}
 use Rattle.grammar.specs.Combinators.{Text}
-use Rattle.position_table.specs.declared.Checked.{Checked}
+use Rattle.refusal.specs.declared.Refusal.{Refusal}
+use Rattle.std.specs.Prelude.{Result, Ok, Err}
 use Rattle.position_table.specs.Table.{checked}
 use Rattle.format.specs.declared.records.Case.{Case}
 use Rattle.format.specs.Artifact as A
@@ -184,7 +185,7 @@ module _ (places : A.Places) (mask : ℕ) (s : List ℕ) (a : A.Artifact) (table
       or-true true = refl
       or-true false = refl
 
-      go : (a.positions.bytes ≡ []) ⊎ (checked a.positions.bytes ≡ Checked.Sound) → M.sound_table s a.positions.span ≡ true
+      go : (a.positions.bytes ≡ []) ⊎ (checked a.positions.bytes ≡ Ok tt) → M.sound_table s a.positions.span ≡ true
       go (inl e) =
           let none : a.positions.span.size ≡ 0 = sym (stands-long a.positions told.positions) ∙ ap length e in
           rw (eq-eqb _ 0 none)

@@ -12,10 +12,10 @@ use Rattle.grammar.specs.Outcome.{Outcome, got}
 use Rattle.format.specs.Artifact as A
 use Rattle.format.specs.Rows.{tables_of}
 use Rattle.format.specs.declared.answer.Artifact.{Artifact}
-use Rattle.format.specs.declared.answer.Answer.{Answer}
 use Rattle.rows.specs.Given.{Bytes}
 use Rattle.reading.specs.Answer.{places_of, outside, answer_of, Answered}
-use Rattle.varint.specs.declared.Written.{Written}
+use Rattle.refusal.specs.declared.Refusal.{Refusal}
+use Rattle.std.specs.Prelude.{Result, Ok, Err}
 use Rattle.written.specs.Meaning.{Meaning, mean}
 use Rattle.written.specs.Put.{put}
 use Rattle.written.specs.WellFormed.{WellFormed}
@@ -59,7 +59,7 @@ module _ (t1 t2 t3 t4 t5 t6 t7 t8 t9 t10 t11 t12 t13 : List ℕ) where
   abbrev tables : List (List ℕ)
   tables = t1 ∷ t2 ∷ t3 ∷ t4 ∷ t5 ∷ t6 ∷ t7 ∷ t8 ∷ t9 ∷ t10 ∷ t11 ∷ t12 ∷ t13 ∷ []
 
-  module _ {mask : ℕ} {s : List ℕ} {exit : List (List ℕ)} {a : Artifact} (read : Answered mask s tables exit (Answer.Accepted a)) (bytes : Bytes s) where
+  module _ {mask : ℕ} {s : List ℕ} {exit : List (List ℕ)} {a : Artifact} (read : Answered mask s tables exit (Ok a)) (bytes : Bytes s) where
     pub accepted : AcceptedAs mask s tables exit a
     accepted = acceptance-fills t1 t2 t3 t4 t5 t6 t7 t8 t9 t10 t11 t12 t13 read
 
@@ -97,8 +97,8 @@ module _ (t1 t2 t3 t4 t5 t6 t7 t8 t9 t10 t11 t12 t13 : List ℕ) where
         rw (ten, le-leb _ _ (le_trans (rewritten-no-longer stripped) short))
 
     -- so they are written wherever the file that was read would have had room
-    pub read-can-be-written : {stripped : Bool} {entry after : List ℕ} {answer : Written} → Writes mask stripped (lent_of a exit s) entry after answer →
-        length s ≤ length entry → answer ≡ Written.Done (length (bytes_of stripped (lent_of a exit s)))
+    pub read-can-be-written : {stripped : Bool} {entry after : List ℕ} {answer : Result ℕ Refusal} → Writes mask stripped (lent_of a exit s) entry after answer →
+        length s ≤ length entry → answer ≡ Ok (length (bytes_of stripped (lent_of a exit s)))
     read-can-be-written {stripped} {entry} {after} {answer} writes room =
         writes.result ∙ rw (read-keeps-the-rules stripped, le-leb _ _ (le_trans (rewritten-no-longer stripped) room))
 
@@ -120,7 +120,7 @@ module _ (t1 t2 t3 t4 t5 t6 t7 t8 t9 t10 t11 t12 t13 : List ℕ) where
   -- ── demand 2: written and read back ──
 
   pub written-read-back : {mask : ℕ} {stripped : Bool} {m : Lent} {n : ℕ} (call : Wrote mask stripped m n) → Native m → Bytes call.exit →
-      {exit : List (List ℕ)} {answer : Answer} → Answered mask (bytes_in call) tables exit answer → Room (places_of tables) m →
+      {exit : List (List ℕ)} {answer : Result Artifact Refusal} → Answered mask (bytes_in call) tables exit answer → Room (places_of tables) m →
       AcceptedMeaning (bytes_in call) exit answer (in_way stripped (meaning_of m))
   unfolding bytes_of
   written-read-back {mask} {stripped} {m} {n} call native bytes {exit} {answer} read room =
@@ -128,8 +128,8 @@ module _ (t1 t2 t3 t4 t5 t6 t7 t8 t9 t10 t11 t12 t13 : List ℕ) where
       let r = whole.written-read-back (places_of tables) mask (in_way stripped (meaning_of m)) (well-in stripped (places_of tables) mask m native room ok.rules) ok.short in
       let is : bytes_in call ≡ put (in_way stripped (meaning_of m)) = ok.bytes in
       let e = rw (← is) at r.result in
-      let answers : answer ≡ Answer.Accepted (outside r.value) = read.result ∙ ap answer_of e in
-      let accepting : Answered mask (bytes_in call) tables exit (Answer.Accepted (outside r.value)) = rw answers at read in
+      let answers : answer ≡ Ok (outside r.value) = read.result ∙ ap answer_of e in
+      let accepting : Answered mask (bytes_in call) tables exit (Ok (outside r.value)) = rw answers at read in
       let taken : Bytes (bytes_in call) = bytes-taken n call.exit bytes in
       record {
         what = outside r.value;

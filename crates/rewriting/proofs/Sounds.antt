@@ -10,12 +10,12 @@ use lib.Dec.{leb}
 use lib.ListN.{length, drop}
 use lib.Seq.{take-append_seam}
 use Rattle.refusal.specs.declared.Refusal.{Refusal}
-use Rattle.varint.specs.declared.Written.{Written}
+use Rattle.std.specs.Prelude.{Result, Ok, Err}
 use Rattle.model.specs.Lent.{Lent}
 use Rattle.model.specs.Written.{broken_of_ten, rule11, else_eleven, lowest_broken, bytes_of, roomed, in_front, answered, left}
 use Rattle.rewriting.specs.Words.{Wrote, Sound}
 
-done_refused : {n : ℕ} {r : Refusal} → Written.Done n ≡ Written.Refused r → ⊥
+done_refused : {n : ℕ} {r : Refusal} → Ok n ≡ Err r → ⊥
 done_refused e = let z : ◌≡◌ {A = ℕ} 0 1 = cc in omega arith
 
 -- no rule is broken: none of the ten, and not the eleventh
@@ -33,10 +33,10 @@ record Stored (bytes entry exit : List ℕ) (n : ℕ) : Type 0 where
   size : n ≡ length bytes
   front : exit ≡ bytes ++ drop (length bytes) entry
 
-stored : (bytes entry exit : List ℕ) {n : ℕ} → Written.Done n ≡ roomed bytes entry → exit ≡ in_front bytes entry → Stored bytes entry exit n
+stored : (bytes entry exit : List ℕ) {n : ℕ} → Ok n ≡ roomed bytes entry → exit ≡ in_front bytes entry → Stored bytes entry exit n
 stored bytes entry exit {n} = go (leb (length bytes) (length entry))
   where
-    go : (room : Bool) → Written.Done n ≡ (if room then Written.Done (length bytes) else Written.Refused (Refusal.NoRoom (length bytes))) →
+    go : (room : Bool) → Ok n ≡ (if room then Ok (length bytes) else Err (Refusal.NoRoom (length bytes))) →
         exit ≡ (if room then bytes ++ drop (length bytes) entry else entry) → Stored bytes entry exit n
     go true e f = record { size = cc; front = f }
     go false e f = absurd (done_refused e)
@@ -45,7 +45,7 @@ record Clear (broken : ℕ) (bytes entry exit : List ℕ) (n : ℕ) : Type 0 whe
   none : broken ≡ 0
   kept : Stored bytes entry exit n
 
-clear : (broken : ℕ) (bytes entry exit : List ℕ) {n : ℕ} → Written.Done n ≡ answered broken bytes entry → exit ≡ left broken bytes entry →
+clear : (broken : ℕ) (bytes entry exit : List ℕ) {n : ℕ} → Ok n ≡ answered broken bytes entry → exit ≡ left broken bytes entry →
     Clear broken bytes entry exit n
 clear zero bytes entry exit e f = record { none = refl; kept = stored bytes entry exit e f }
 clear (suc rule) bytes entry exit e f = absurd (done_refused e)

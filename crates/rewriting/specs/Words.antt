@@ -1,9 +1,9 @@
 -- The words of the promises about writing: what `writing::write` did, by its contract, and what was read of what it wrote.
-use Rattle.std.specs.Prelude.{ℕ, ◌+◌, ◌≤◌, Bool, ◌≡◌, List, length, take}
+use Rattle.std.specs.Prelude.{ℕ, ◌+◌, ◌≤◌, Bool, ◌≡◌, List, length, take, Result, Ok, Err}
 use Rattle.format.specs.Artifact as A
 use Rattle.format.specs.declared.answer.Artifact.{Artifact}
-use Rattle.format.specs.declared.answer.Answer.{Answer}
-use Rattle.varint.specs.declared.Written.{Written}
+use Rattle.refusal.specs.declared.Refusal.{Refusal}
+use Rattle.std.specs.Prelude.{Result, Ok, Err}
 use Rattle.written.specs.Meaning.{Meaning}
 use Rattle.model.specs.Lent.{Lent}
 use Rattle.model.specs.Tables.{meaning_of}
@@ -14,7 +14,7 @@ use Rattle.returned.specs.Lending.{lent_of}
 pub record Wrote (mask : ℕ) (stripped : Bool) (m : Lent) (n : ℕ) : Type 0 where
   pub entry : List ℕ
   pub exit : List ℕ
-  pub contract : Writes mask stripped m entry exit (Written.Done n)
+  pub contract : Writes mask stripped m entry exit (Ok n)
 
 -- the bytes that it wrote
 abbrev pub bytes_in : {mask : ℕ} {stripped : Bool} {m : Lent} {n : ℕ} → Wrote mask stripped m n → List ℕ
@@ -28,9 +28,9 @@ pub record Sound {mask : ℕ} {stripped : Bool} {m : Lent} {n : ℕ} (call : Wro
   pub bytes : bytes_in call ≡ bytes_of stripped m
 
 -- a read of bytes s accepted, and its tables mean so
-pub record AcceptedMeaning (s : List ℕ) (exit : List (List ℕ)) (answer : Answer) (meaning : Meaning) : Type 0 where
+pub record AcceptedMeaning (s : List ℕ) (exit : List (List ℕ)) (answer : Result Artifact Refusal) (meaning : Meaning) : Type 0 where
   pub what : Artifact
-  pub answers : answer ≡ Answer.Accepted what
+  pub answers : answer ≡ Ok what
   pub means : meaning_of (lent_of what exit s) ≡ meaning
 
 -- places enough for two

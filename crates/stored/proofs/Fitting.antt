@@ -1,4 +1,5 @@
 -- What a read gives of bytes fits.
+use Rattle.std.specs.Prelude.{Option, Some, None}
 use Rattle.std.proofs.Common.{if◌then◌else◌}
 use Prim.Native.Nat.{ℕ, zero, suc, ◌+◌, ◌-◌, ◌^◌, ◌≤◌, ◌<◌}
 use mathlib.Core.Path.{◌≡◌, refl, sym}
@@ -19,9 +20,7 @@ use Rattle.grammar.specs.Number.{number, signed, zigzag, unzigzag}
 use Rattle.grammar.proofs.Outcome.{got-ne-refused, got-value}
 use Rattle.grammar.proofs.Number.{number-below, zigzag-unzigzag}
 use Rattle.tables.specs.Table.{Used, records, nested}
-use Rattle.format.specs.declared.records.OptionalPosition.{OptionalPosition}
-use Rattle.format.specs.declared.records.Literal.{Literal}
-use Rattle.format.specs.declared.records.ThisType.{ThisType}
+use Rattle.format.specs.declared.records.Position.{Position}
 use Rattle.format.specs.Artifact as A
 use Rattle.format.specs.File as definition
 use Rattle.leaves.proofs.Leaves.{Leaves, leaves-pure, leaves-refuse, leaves-then, leaves-bind, leaves-check, leaves-tag, leaves-unknown, leaves-each}
@@ -33,21 +32,21 @@ use Rattle.rows.specs.Given.{Bytes}
 placed-fits : (line column : ℕ) → FitsBits 16 line → FitsBits 16 column → FitsPosition (definition.placed line column)
 placed-fits line column l k = go (eqb line 0) refl
   where
-    go : (t : Bool) → eqb line 0 ≡ t → FitsPosition (if t then OptionalPosition.Absent else OptionalPosition.At line column)
+    go : (t : Bool) → eqb line 0 ≡ t → FitsPosition (if t then None else Some (record { line = line; column = column }))
     go true e = tt
     go false e = let h : line ≡ 0 → ⊥ = eqb-false _ _ e in (omega arith, (l, k))
 
-literal-fits : (n : ℕ) → FitsBits 32 n → FitsLiteral (if eqb n 0xFFFFFFFF then Literal.Absent else Literal.Present n)
+literal-fits : (n : ℕ) → FitsBits 32 n → FitsLiteral (if eqb n 0xFFFFFFFF then None else Some n)
 literal-fits n fits = go (eqb n 0xFFFFFFFF) refl
   where
-    go : (t : Bool) → eqb n 0xFFFFFFFF ≡ t → FitsLiteral (if t then Literal.Absent else Literal.Present n)
+    go : (t : Bool) → eqb n 0xFFFFFFFF ≡ t → FitsLiteral (if t then None else Some n)
     go true e = tt
     go false e = let h : n ≡ 0xFFFFFFFF → ⊥ = eqb-false _ _ e in omega (arith, fits.below)
 
-this-fits : (n : ℕ) → n ≤ 2 ^ 32 → FitsThis (if eqb n 0 then ThisType.Untyped else ThisType.Typed (n - 1))
+this-fits : (n : ℕ) → n ≤ 2 ^ 32 → FitsThis (if eqb n 0 then None else Some (n - 1))
 this-fits n fits = go (eqb n 0) refl
   where
-    go : (t : Bool) → eqb n 0 ≡ t → FitsThis (if t then ThisType.Untyped else ThisType.Typed (n - 1))
+    go : (t : Bool) → eqb n 0 ≡ t → FitsThis (if t then None else Some (n - 1))
     go true e = tt
     go false e = let h : n ≡ 0 → ⊥ = eqb-false _ _ e in record { below = omega arith }
 

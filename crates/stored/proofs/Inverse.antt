@@ -1,4 +1,5 @@
 -- The row of a record that fits gives the record back.
+use Rattle.std.specs.Prelude.{Option, Some, None}
 use Prim.Native.Nat.{ℕ, ◌+◌, ◌-◌, ◌%◌, ◌^◌, ◌<◌}
 use mathlib.Core.Path.{◌≡◌, refl}
 use mathlib.Core.Bool.{Bool, true, false, not}
@@ -16,11 +17,9 @@ use Rattle.format.specs.declared.records.Chain.{Chain}
 use Rattle.format.specs.declared.records.Case.{Case}
 use Rattle.format.specs.declared.records.Range.{Range}
 use Rattle.format.specs.declared.records.Switch.{Switch}
-use Rattle.format.specs.declared.records.Literal.{Literal}
 use Rattle.format.specs.declared.records.Input.{Input}
 use Rattle.format.specs.declared.records.Site.{Site}
 use Rattle.format.specs.declared.records.Access.{Access}
-use Rattle.format.specs.declared.records.ThisType.{ThisType}
 use Rattle.format.specs.declared.records.Function.{Function}
 use Rattle.format.specs.Artifact as A
 use Rattle.format.specs.Rows.{yes, tail_words, literal_words, this_word, access_word, end_row, token_row, assign_row, chain_row, step_row, switch_row, case_row, range_row, site_row, input_row, function_row, parameter_row}
@@ -90,17 +89,17 @@ literal-fits h = record { below = omega arith }
 pub input_back : (i : Input) → FitsInput i → input_of (input_row i) ≡ i
 input_back i fits = rw (chunk_back i.chunk fits.chunk, literal-back i.literal fits.literal)
   where
-    literal-back : (l : Literal) → FitsLiteral l → literal_of (word (literal_words l) 0) (word (literal_words l) 1) ≡ l
-    literal-back Literal.Absent fits = refl
-    literal-back (Literal.Present index) fits = rw (bits_back (literal-fits fits))
+    literal-back : (l : Option ℕ) → FitsLiteral l → literal_of (word (literal_words l) 0) (word (literal_words l) 1) ≡ l
+    literal-back None fits = refl
+    literal-back (Some index) fits = rw (bits_back (literal-fits fits))
 
 access-back : (a : Access) → access_of (access_word a) ≡ a
 access-back Access.Public = refl
 access-back Access.Private = refl
 
-this-back : (t : ThisType) → FitsThis t → this_of (this_word t) ≡ t
-this-back ThisType.Untyped fits = refl
-this-back (ThisType.Typed index) fits =
+this-back : (t : Option ℕ) → FitsThis t → this_of (this_word t) ≡ t
+this-back None fits = refl
+this-back (Some index) fits =
     let less : index + 1 - 1 ≡ index = omega arith in
     rw (ne_eqb (index + 1) 0 (omega arith), less, bits_back fits)
 

@@ -1,4 +1,5 @@
 -- The record of a row fits: a word is taken modulo the width of what it holds, and the rules say the rest.
+use Rattle.std.specs.Prelude.{Option, Some, None}
 use Rattle.std.proofs.Common.{if◌then◌else◌}
 use Prim.Native.Nat.{ℕ, ◌+◌, ◌*◌, ◌-◌, ◌/◌, ◌%◌, ◌^◌, ◌≤◌, ◌<◌}
 use mathlib.Core.Bool.{Bool, true, false}
@@ -13,8 +14,7 @@ use mir.Syntax.{w64}
 use mir.Val.{SFits}
 use mir.ValLaws.{to_z-Fits}
 use borrow.Author.Tests.{ltb-true, leb-true, eqb-false, eq-eqb}
-use Rattle.format.specs.declared.records.OptionalPosition.{OptionalPosition}
-use Rattle.format.specs.declared.records.Literal.{Literal}
+use Rattle.format.specs.declared.records.Position.{Position}
 use Rattle.rows.specs.Back as B
 use Rattle.rows.specs.Fits.{FitsBits, FitsName, FitsPosition, FitsChunk, FitsRoot, FitsTail, FitsChain, FitsStep, FitsSwitch, FitsRange, FitsSite, FitsLiteral, FitsInput, FitsThis, FitsFunction}
 use Rattle.written.specs.WellFormed.{flags_of, WellStep, WellCase}
@@ -35,7 +35,7 @@ signed_of row words i = to_z-Fits w64 (B.word row i) (record { fits = words i })
 position-of : (line column : ℕ) → FitsPosition (B.position line column)
 position-of line column = go (eqb (B.small line) 0) refl
   where
-    go : (t : Bool) → eqb (B.small line) 0 ≡ t → FitsPosition (if t then OptionalPosition.Absent else OptionalPosition.At (B.small line) (B.small column))
+    go : (t : Bool) → eqb (B.small line) 0 ≡ t → FitsPosition (if t then None else Some (record { line = B.small line; column = B.small column }))
     go true e = tt
     go false e = let h : B.small line ≡ 0 → ⊥ = eqb-false _ _ e in (omega arith, (bits_of 16 line, bits_of 16 column))
 
@@ -126,7 +126,7 @@ well-step mask row e =
 literal-of : (present literal : ℕ) → present ≤ 1 → (present ≡ 1 → literal < 0xFFFFFFFF) → FitsLiteral (B.literal_of present literal)
 literal-of present literal h below = go (eqb present 0) refl
   where
-    go : (t : Bool) → eqb present 0 ≡ t → FitsLiteral (if t then Literal.Absent else Literal.Present (B.index literal))
+    go : (t : Bool) → eqb present 0 ≡ t → FitsLiteral (if t then None else Some (B.index literal))
     go true e = tt
     go false e = let no : present ≡ 0 → ⊥ = eqb-false _ _ e in lt_of_le_of_lt (mod-le literal (2 ^ 32)) (below (omega arith))
 

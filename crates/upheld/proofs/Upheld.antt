@@ -10,7 +10,8 @@ use lib.Dec.{ltb, eqb}
 use lib.ListN.{length, take}
 use Rattle.grammar.specs.declared.Span.{Span}
 use Rattle.grammar.specs.Combinators.{Each}
-use Rattle.position_table.specs.declared.Checked.{Checked}
+use Rattle.refusal.specs.declared.Refusal.{Refusal}
+use Rattle.std.specs.Prelude.{Result, Ok as Checks, Err}
 use Rattle.position_table.specs.Table.{checked}
 use Rattle.format.specs.Artifact as A
 use Rattle.format.specs.File.{scalar}
@@ -44,14 +45,14 @@ list-well Ok P w t of one {n} rows each =
     record { counted = rw size rows.few; room = rw size rows.room; each = each_map P Ok of one (B.cut w n t) each }
 
 -- a position table is empty or checks
-sound-positions : (text : List ℕ) (span : Span) → R.sound_table text span ≡ true → (clip text span ≡ []) ⊎ (checked (clip text span) ≡ Checked.Sound)
+sound-positions : (text : List ℕ) (span : Span) → R.sound_table text span ≡ true → (clip text span ≡ []) ⊎ (checked (clip text span) ≡ Checks tt)
 sound-positions text span e = go (eqb span.size 0) refl e
   where
-    by : (answer : Checked) → R.sound answer ≡ true → answer ≡ Checked.Sound
-    by Checked.Sound e = refl
-    by (Checked.Refused r) e = false-true e
+    by : (answer : Result Unit Refusal) → R.sound answer ≡ true → answer ≡ Checks tt
+    by (Checks tt) e = refl
+    by (Err r) e = false-true e
 
-    go : (b : Bool) → eqb span.size 0 ≡ b → b || R.sound (checked (clip text span)) ≡ true → (clip text span ≡ []) ⊎ (checked (clip text span) ≡ Checked.Sound)
+    go : (b : Bool) → eqb span.size 0 ≡ b → b || R.sound (checked (clip text span)) ≡ true → (clip text span ≡ []) ⊎ (checked (clip text span) ≡ Checks tt)
     go true q e = let none : span.size ≡ 0 = eqb-true _ _ q in inl (rw none)
     go false q e = inr (by (checked (clip text span)) e)
 

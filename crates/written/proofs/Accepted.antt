@@ -14,7 +14,8 @@ use Rattle.grammar.specs.declared.Cursor.{Cursor}
 use Rattle.grammar.specs.Outcome.{start, got, Parser, ◌>>=◌}
 use Rattle.grammar.specs.Combinators.{Text}
 use Rattle.grammar.proofs.RoundTrip.{itself}
-use Rattle.position_table.specs.declared.Checked.{Checked}
+use Rattle.refusal.specs.declared.Refusal.{Refusal}
+use Rattle.std.specs.Prelude.{Result, Ok as Sound, Err}
 use Rattle.position_table.specs.Table.{checked}
 use Rattle.tables.specs.Table.{With, count_items}
 use Rattle.format.specs.Artifact as A
@@ -163,16 +164,16 @@ module _ {s : List ℕ} where
 
 -- ── the position table ──
 
-leaves-sound : {s : List ℕ} {B : Type 0} (answer : Checked) (f : Unit → Parser B) {Ok : B → Type 0} → (answer ≡ Checked.Sound → Leaves s (f tt) Ok) →
+leaves-sound : {s : List ℕ} {B : Type 0} (answer : Result Unit Refusal) (f : Unit → Parser B) {Ok : B → Type 0} → (answer ≡ Sound tt → Leaves s (f tt) Ok) →
     Leaves s (definition.sound answer >>= f) Ok
 unfolding definition.sound
-leaves-sound Checked.Sound f rest = leaves-bind _ _ (λ _. rest refl)
-leaves-sound (Checked.Refused r) f rest = leaves-then f {First = λ _. ⊥} (leaves-refuse r) (λ _ no. absurd no)
+leaves-sound (Sound tt) f rest = leaves-bind _ _ (λ _. rest refl)
+leaves-sound (Err r) f rest = leaves-then f {First = λ _. ⊥} (leaves-refuse r) (λ _ no. absurd no)
 
-empty-or-sound : (t : Text) → Taken t → (if eqb t.span.size 0 then Checked.Sound else checked t.bytes) ≡ Checked.Sound → WellPositions t.bytes
+empty-or-sound : (t : Text) → Taken t → (if eqb t.span.size 0 then Sound tt else checked t.bytes) ≡ Sound tt → WellPositions t.bytes
 empty-or-sound t taken e = record { counted = taken.counted; sound = go (eqb t.span.size 0) refl e }
   where
-    go : (b : Bool) → eqb t.span.size 0 ≡ b → (if b then Checked.Sound else checked t.bytes) ≡ Checked.Sound → (t.bytes ≡ []) ⊎ (checked t.bytes ≡ Checked.Sound)
+    go : (b : Bool) → eqb t.span.size 0 ≡ b → (if b then Sound tt else checked t.bytes) ≡ Sound tt → (t.bytes ≡ []) ⊎ (checked t.bytes ≡ Sound tt)
     go true q e = inl (taken.empty (eqb-true _ _ q))
     go false q e = inr e
 

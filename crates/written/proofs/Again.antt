@@ -1,4 +1,5 @@
 -- What an accepted read means can be written again, whole or stripped, under the same mask and with the same places: it is well-formed and no longer than what was read.
+use Rattle.std.specs.Prelude.{Option, Some, None}
 use Rattle.std.proofs.Common.{if◌then◌else◌}
 use Prim.Native.Nat.{ℕ, ◌≤◌, zero-le}
 use mathlib.Core.Path.{◌≡◌, refl, sym}
@@ -18,7 +19,7 @@ use Rattle.grammar.specs.RoundTrip.{Read}
 use Rattle.grammar.proofs.Outcome.{got-ne-refused}
 use Rattle.grammar.proofs.Shortest.{shortest-some}
 use Rattle.tables.specs.Table.{With}
-use Rattle.format.specs.declared.records.OptionalPosition.{OptionalPosition}
+use Rattle.format.specs.declared.records.Position.{Position}
 use Rattle.format.specs.declared.records.Root.{Root}
 use Rattle.format.specs.declared.records.Step.{Step}
 use Rattle.format.specs.declared.records.Chain.{Chain}
@@ -59,11 +60,11 @@ module _ {M : Type 0} (f : M → M) (put : M → List ℕ) (one : (m : M) → No
   list-shorter : (ms : List M) → NoLonger (put_list put (map f ms)) (put_list put ms)
   list-shorter ms = rw (length-map f ms) (behind (shortest (length ms)) (all-shorter ms))
 
-position-shorter : (at : OptionalPosition) → NoLonger (put_position OptionalPosition.Absent) (put_position at)
-position-shorter OptionalPosition.Absent = same _
-position-shorter (OptionalPosition.At line column) =
+position-shorter : (at : Option Position) → NoLonger (put_position None) (put_position at)
+position-shorter None = same _
+position-shorter (Some at) =
     record {
-      le = omega (arith, length-append (shortest 0) (shortest 0), length-append (shortest line) (shortest column), one_byte.0, shortest-some line, shortest-some column);
+      le = omega (arith, length-append (shortest 0) (shortest 0), length-append (shortest at.line) (shortest at.column), one_byte.0, shortest-some at.line, shortest-some at.column);
     }
 
 root-shorter : (r : Root) → NoLonger (put_root (strip_root r)) (put_root r)

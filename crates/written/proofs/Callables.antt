@@ -1,4 +1,5 @@
 -- Custom syntax and functions are given back.
+use Rattle.std.specs.Prelude.{Option, Some, None}
 use Rattle.std.proofs.Common.{if◌then◌else◌}
 use Prim.Native.Nat.{ℕ, ◌+◌, ◌-◌, ◌^◌, ◌≤◌}
 use mathlib.Core.Path.{◌≡◌, refl}
@@ -13,11 +14,9 @@ use Rattle.grammar.specs.RoundTrip.{Gives}
 use Rattle.grammar.proofs.RoundTrip.{itself, gives-pure, gives-check-then}
 use Rattle.tables.specs.Table.{With, count_items}
 use Rattle.format.specs.declared.records.NameIndex.{NameIndex}
-use Rattle.format.specs.declared.records.Literal.{Literal}
 use Rattle.format.specs.declared.records.Input.{Input}
 use Rattle.format.specs.declared.records.Site.{Site}
 use Rattle.format.specs.declared.records.Access.{Access}
-use Rattle.format.specs.declared.records.ThisType.{ThisType}
 use Rattle.format.specs.declared.records.Function.{Function}
 use Rattle.format.specs.File as definition
 use Rattle.rows.specs.Fits.{FitsLiteral, FitsInput, FitsThis}
@@ -30,13 +29,13 @@ gives-input : {s : List ℕ} (i : Input) → FitsInput i → Gives itself s defi
 unfolding definition.input
 gives-input {s} i fits = gives_then _ (gives-chunk i.chunk fits.chunk) (literal i.literal fits.literal)
   where
-    with : Literal → Input
+    with : Option ℕ → Input
     with l = record { chunk = i.chunk; literal = l }
 
-    literal : (l : Literal) → FitsLiteral l →
-        Gives itself s (index >>= (λ n. pure (with (if eqb n 0xFFFFFFFF then Literal.Absent else Literal.Present n)))) (put_literal l) (with l)
-    literal Literal.Absent fits = gives-end _ (gives-index (record { below = omega arith })) refl
-    literal (Literal.Present n) fits = gives-end _ (gives-index (record { below = omega arith })) (rw (ne_eqb n 0xFFFFFFFF (omega arith)))
+    literal : (l : Option ℕ) → FitsLiteral l →
+        Gives itself s (index >>= (λ n. pure (with (if eqb n 0xFFFFFFFF then None else Some n)))) (put_literal l) (with l)
+    literal None fits = gives-end _ (gives-index (record { below = omega arith })) refl
+    literal (Some n) fits = gives-end _ (gives-index (record { below = omega arith })) (rw (ne_eqb n 0xFFFFFFFF (omega arith)))
 
 gives-site : {s : List ℕ} (input_places : ℕ) (u : With Site Input) (used : ℕ) → WellSite u →
     count_items used u ≤ input_places → Gives itself s (definition.site input_places used) (put_site u) u
@@ -56,10 +55,10 @@ unfolding definition.access ◌⇒◌∣◌
 gives-access Access.Public = gives-ended _ (gives-count (omega arith)) (gives-pure _ refl)
 gives-access Access.Private = gives-ended _ (gives-count (omega arith)) (gives-pure _ refl)
 
-gives-this : {s : List ℕ} (t : ThisType) → FitsThis t → Gives itself s definition.this_type (put_this t) t
+gives-this : {s : List ℕ} (t : Option ℕ) → FitsThis t → Gives itself s definition.this_type (put_this t) t
 unfolding definition.this_type
-gives-this ThisType.Untyped fits = gives-ended _ (gives-count (omega arith)) (gives-check-then _ _ refl (gives-pure _ refl))
-gives-this (ThisType.Typed n) fits =
+gives-this None fits = gives-ended _ (gives-count (omega arith)) (gives-check-then _ _ refl (gives-pure _ refl))
+gives-this (Some n) fits =
     let back : n + 1 - 1 ≡ n = omega arith in
     gives-ended _ (gives-count (omega (arith, fits.below))) (gives-check-then _ _ (le-leb (n + 1) (2 ^ 32) (omega (arith, fits.below)))
     (gives-pure _ (rw (ne_eqb (n + 1) 0 (omega arith), back))))

@@ -1,4 +1,5 @@
 -- What stands in several sections is given back: numbers, bytes, strings, lists in tables, names, positions, chunks.
+use Rattle.std.specs.Prelude.{Option, Some, None}
 use Prim.Native.Nat.{ℕ, ◌^◌, ◌≤◌, ◌<◌}
 use mathlib.Core.Path.{◌≡◌, refl, ◌∙◌, ap}
 use mathlib.Core.List.{List, [], ◌++◌, append-nil}
@@ -16,7 +17,7 @@ use Rattle.grammar.proofs.RoundTrip.{itself, gives-pure, gives-bind, gives-last,
 use Rattle.grammar.proofs.Number as N
 use Rattle.utf8.specs.Check.{is_utf8}
 use Rattle.format.specs.declared.records.NameIndex.{NameIndex}
-use Rattle.format.specs.declared.records.OptionalPosition.{OptionalPosition}
+use Rattle.format.specs.declared.records.Position.{Position}
 use Rattle.format.specs.declared.records.Chunk.{Chunk}
 use Rattle.format.specs.File as definition
 use Rattle.rows.specs.Fits.{FitsBits, FitsName, FitsPosition, FitsChunk}
@@ -81,12 +82,12 @@ pub gives-name : {s : List ℕ} (name : NameIndex) → FitsName name → Gives i
 unfolding definition.name_index
 gives-name name fits = gives-end _ (gives-index fits) refl
 
-pub gives-position : {s : List ℕ} (at : OptionalPosition) → FitsPosition at → Gives itself s definition.position (put_position at) at
+pub gives-position : {s : List ℕ} (at : Option Position) → FitsPosition at → Gives itself s definition.position (put_position at) at
 unfolding definition.position
-gives-position OptionalPosition.Absent fits =
+gives-position None fits =
     gives_then _ (gives-small (record { below = omega arith })) (gives-end _ (gives-small (record { below = omega arith })) refl)
-gives-position (OptionalPosition.At line column) fits =
-    gives_then _ (gives-small fits.1.0) (gives-end _ (gives-small fits.1.1) (rw (ne_eqb line 0 (omega (arith, fits.0)))))
+gives-position (Some at) fits =
+    gives_then _ (gives-small fits.1.0) (gives-end _ (gives-small fits.1.1) (rw (ne_eqb at.line 0 (omega (arith, fits.0)))))
 
 pub gives-chunk : {s : List ℕ} (c : Chunk) → FitsChunk c → Gives itself s definition.chunk (put_chunk c) c
 unfolding definition.chunk

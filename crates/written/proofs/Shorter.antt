@@ -13,10 +13,8 @@ use Rattle.grammar.specs.Number.{shortest, shortest_in}
 use Rattle.grammar.proofs.RoundTrip.{itself}
 use Rattle.grammar.proofs.Shortest.{shortest-some}
 use Rattle.tables.specs.Table.{count_items}
-use Rattle.position_table.specs.declared.Checked.{Checked}
-use Rattle.format.specs.declared.records.OptionalPosition.{OptionalPosition}
-use Rattle.format.specs.declared.records.Literal.{Literal}
-use Rattle.format.specs.declared.records.ThisType.{ThisType}
+use Rattle.refusal.specs.declared.Refusal.{Refusal}
+use Rattle.std.specs.Prelude.{Result, Ok, Err, Some, None}
 use Rattle.format.specs.Artifact as A
 use Rattle.format.specs.File as definition
 use Rattle.written.specs.Meaning.{mean_text, mean_names, mean_constant, mean_assign, mean}
@@ -35,21 +33,21 @@ one_byte = (refl, refl)
 placed-short : (line column : ℕ) → length (put_position (definition.placed line column)) ≤ length (shortest line) + length (shortest column)
 placed-short line column = go (eqb line 0)
   where
-    go : (b : Bool) → length (put_position (if b then OptionalPosition.Absent else OptionalPosition.At line column)) ≤ length (shortest line) + length (shortest column)
+    go : (b : Bool) → length (put_position (if b then None else Some (record { line = line; column = column }))) ≤ length (shortest line) + length (shortest column)
     go true = omega (arith, length-append (shortest 0) (shortest 0), one_byte.0, shortest-some line, shortest-some column)
     go false = omega (arith, length-append (shortest line) (shortest column))
 
-literal-short : (n : ℕ) → length (put_literal (if eqb n 0xFFFFFFFF then Literal.Absent else Literal.Present n)) ≤ length (shortest n)
+literal-short : (n : ℕ) → length (put_literal (if eqb n 0xFFFFFFFF then None else Some n)) ≤ length (shortest n)
 literal-short n = go (eqb n 0xFFFFFFFF) refl
   where
-    go : (b : Bool) → eqb n 0xFFFFFFFF ≡ b → length (put_literal (if b then Literal.Absent else Literal.Present n)) ≤ length (shortest n)
+    go : (b : Bool) → eqb n 0xFFFFFFFF ≡ b → length (put_literal (if b then None else Some n)) ≤ length (shortest n)
     go true e = let same : n ≡ 0xFFFFFFFF = eqb-true _ _ e in rw same (omega arith)
     go false e = omega arith
 
-this-short : (n : ℕ) → length (put_this (if eqb n 0 then ThisType.Untyped else ThisType.Typed (n - 1))) ≤ length (shortest n)
+this-short : (n : ℕ) → length (put_this (if eqb n 0 then None else Some (n - 1))) ≤ length (shortest n)
 this-short n = go (eqb n 0) refl
   where
-    go : (b : Bool) → eqb n 0 ≡ b → length (put_this (if b then ThisType.Untyped else ThisType.Typed (n - 1))) ≤ length (shortest n)
+    go : (b : Bool) → eqb n 0 ≡ b → length (put_this (if b then None else Some (n - 1))) ≤ length (shortest n)
     go true e = omega (arith, one_byte.0, shortest-some n)
     go false e =
         let some : n ≡ 0 → ⊥ = eqb-false _ _ e in
@@ -156,7 +154,7 @@ module _ {s : List ℕ} where
   unfolding definition.input
   spends-input =
       spends-then _ spends-chunk (λ c. spends-then _ (spends-number 32) (λ literal.
-      spends-pure _ (omega (arith, literal-short literal, length-append (put_chunk c) (put_literal (if eqb literal 0xFFFFFFFF then Literal.Absent else Literal.Present literal))))))
+      spends-pure _ (omega (arith, literal-short literal, length-append (put_chunk c) (put_literal (if eqb literal 0xFFFFFFFF then None else Some literal))))))
 
   spends-site : (input_places used : ℕ) → Spends s (definition.site input_places used) (λ u. length (put_site u))
   unfolding definition.site
@@ -187,10 +185,10 @@ module _ {s : List ℕ} where
         length-append (put_list put_name parameters) (put_chunk chunk),
       )))))))
 
-  spends-sound : (answer : Checked) → Spends s (definition.sound answer) (λ _. 0)
+  spends-sound : (answer : Result Unit Refusal) → Spends s (definition.sound answer) (λ _. 0)
   unfolding definition.sound
-  spends-sound Checked.Sound = spends-pure _ (omega arith)
-  spends-sound (Checked.Refused r) = spends-refuse r
+  spends-sound (Ok tt) = spends-pure _ (omega arith)
+  spends-sound (Err r) = spends-refuse r
 
   spends-positions : Spends s definition.positions (λ t. length (put_bytes (mean_text t)))
   unfolding definition.positions

@@ -1,10 +1,10 @@
 -- THE BYTES OF A MEANING: document 01, "The sections, in file order", section by section, each beside its line of the definition of reading.
-use Rattle.std.specs.Prelude.{ℕ, zero, suc, ◌+◌, true, false, List, [], ◌∷◌, ◌++◌, length, if◌then◌else◌}
+use Rattle.std.specs.Prelude.{ℕ, zero, suc, ◌+◌, true, false, List, [], ◌∷◌, ◌++◌, length, if◌then◌else◌, Option, Some, None}
 use Rattle.grammar.specs.Combinators.{low_bytes, put_all}
 use Rattle.grammar.specs.Number.{shortest, zigzag}
 use Rattle.tables.specs.Table.{With}
 use Rattle.format.specs.declared.records.NameIndex.{NameIndex}
-use Rattle.format.specs.declared.records.OptionalPosition.{OptionalPosition}
+use Rattle.format.specs.declared.records.Position.{Position}
 use Rattle.format.specs.declared.records.Chunk.{Chunk}
 use Rattle.format.specs.declared.records.Root.{Root}
 use Rattle.format.specs.declared.records.Tail.{Tail}
@@ -12,11 +12,9 @@ use Rattle.format.specs.declared.records.Step.{Step}
 use Rattle.format.specs.declared.records.Chain.{Chain}
 use Rattle.format.specs.declared.records.Case.{Case}
 use Rattle.format.specs.declared.records.Range.{Range}
-use Rattle.format.specs.declared.records.Literal.{Literal}
 use Rattle.format.specs.declared.records.Input.{Input}
 use Rattle.format.specs.declared.records.Site.{Site}
 use Rattle.format.specs.declared.records.Access.{Access}
-use Rattle.format.specs.declared.records.ThisType.{ThisType}
 use Rattle.format.specs.declared.records.Function.{Function}
 use Rattle.format.specs.Artifact as A
 use Rattle.format.specs.File.{magic}
@@ -36,9 +34,9 @@ abbrev pub put_name : NameIndex → List ℕ
 put_name name = shortest name.0
 
 -- a position is two smalls; none is 0 0
-abbrev pub put_position : OptionalPosition → List ℕ
-put_position OptionalPosition.Absent = shortest 0 ++ shortest 0
-put_position (OptionalPosition.At line column) = shortest line ++ shortest column
+abbrev pub put_position : Option Position → List ℕ
+put_position None = shortest 0 ++ shortest 0
+put_position (Some at) = shortest at.line ++ shortest at.column
 
 -- entry, end, and a small slot count
 abbrev pub put_chunk : Chunk → List ℕ
@@ -122,9 +120,9 @@ put_switch w = put_list put_case w.cases ++ (put_list put_range w.ranges ++ shor
 -- ── 8. custom syntax ──
 
 -- FFFFFFFF means none
-abbrev pub put_literal : Literal → List ℕ
-put_literal Literal.Absent = shortest 0xFFFFFFFF
-put_literal (Literal.Present index) = shortest index
+abbrev pub put_literal : Option ℕ → List ℕ
+put_literal None = shortest 0xFFFFFFFF
+put_literal (Some index) = shortest index
 
 -- chunk and literal
 abbrev pub put_input : Input → List ℕ
@@ -141,9 +139,9 @@ put_access Access.Public = shortest 0
 put_access Access.Private = shortest 1
 
 -- 0 untyped, else one higher than the index
-abbrev pub put_this : ThisType → List ℕ
-put_this ThisType.Untyped = shortest 0
-put_this (ThisType.Typed index) = shortest (index + 1)
+abbrev pub put_this : Option ℕ → List ℕ
+put_this None = shortest 0
+put_this (Some index) = shortest (index + 1)
 
 -- name, access, this_type, parameters, chunk
 abbrev pub put_function : With Function NameIndex → List ℕ

@@ -1,7 +1,6 @@
 -- Stripping: 0 0 is written for every chain position, and an empty table.
-use Rattle.std.specs.Prelude.{[], map}
+use Rattle.std.specs.Prelude.{[], map, None}
 use Rattle.tables.specs.Table.{With}
-use Rattle.format.specs.declared.records.OptionalPosition.{OptionalPosition}
 use Rattle.format.specs.declared.records.Root.{Root}
 use Rattle.format.specs.declared.records.Step.{Step}
 use Rattle.format.specs.declared.records.Chain.{Chain}
@@ -10,13 +9,13 @@ use Rattle.written.specs.Meaning.{Meaning}
 abbrev pub strip_root : Root → Root
 strip_root (Root.Local slot name) = Root.Local slot name
 strip_root Root.Temporary = Root.Temporary
-strip_root (Root.Named name at) = Root.Named name OptionalPosition.Absent
-strip_root (Root.This at) = Root.This OptionalPosition.Absent
+strip_root (Root.Named name at) = Root.Named name None
+strip_root (Root.This at) = Root.This None
 
 abbrev pub strip_step : Step → Step
-strip_step (Step.Index flags operand at bracket) = Step.Index flags operand OptionalPosition.Absent OptionalPosition.Absent
-strip_step (Step.Property flags name getter setter at) = Step.Property flags name getter setter OptionalPosition.Absent
-strip_step (Step.Method flags name argc operand at) = Step.Method flags name argc operand OptionalPosition.Absent
+strip_step (Step.Index flags operand at bracket) = Step.Index flags operand None None
+strip_step (Step.Property flags name getter setter at) = Step.Property flags name getter setter None
+strip_step (Step.Method flags name argc operand at) = Step.Method flags name argc operand None
 
 abbrev pub strip_chain : With Chain Step → With Chain Step
 strip_chain c =

@@ -7,7 +7,7 @@ use Rattle.std.specs.Int.{w64}
 use Rattle.std.proofs.Common.{SFits}
 use Rattle.grammar.specs.Combinators.{Each}
 use Rattle.utf8.specs.Check.{is_utf8}
-use Rattle.position_table.specs.declared.Checked.{Checked}
+use Rattle.std.specs.Prelude.{Ok as Sound}
 use Rattle.position_table.specs.Table.{checked}
 use Rattle.tables.specs.Table.{With, count_items}
 use Rattle.format.specs.declared.records.NameIndex.{NameIndex}
@@ -137,7 +137,7 @@ WellFunction = WellItems FitsFunction (λ f. f.parameters) FitsName
 -- a position table is empty or checks
 pub record WellPositions (t : List ℕ) : Type 0 where
   pub counted : Counted t
-  pub sound : (t ≡ []) ⊎ (checked t ≡ Checked.Sound)
+  pub sound : (t ≡ []) ⊎ (checked t ≡ Sound tt)
 
 pub record WellFormed (places : A.Places) (mask : ℕ) (m : Meaning) : Type 0 where
   pub header : WellHeader m.header
