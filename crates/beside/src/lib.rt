@@ -10,7 +10,6 @@ ghost use Rattle.grain.specs.Numbers.{number_at, answer, value_or, next_or, pair
 ghost use Rattle.beside.specs.Beside.{signed_at, put_answer};
 
 use grain::numbers;
-use varint::{ReadIndex, ReadSigned, ReadSmall, Written};
 
 // An unsigned number of 32 bits.
 #[unsafe(no_mangle)]
@@ -18,16 +17,9 @@ pub extern "C" fn beside_index(bytes: &[u8], at: usize, out: &mut [u64; 2]) -> u
     ensures value { result ≡ answer (number_at 32 bytes.now at) }
     ensures out_after { out.new ≡ pair_or at (number_at 32 bytes.now at) }
 {
-    match varint::index(bytes, numbers::place(at)) {
-        ReadIndex::Got { value, next } => {
-            numbers::put_pair(out, value as u64, next.at);
-            0
-        }
-        ReadIndex::Refused(r) => {
-            numbers::put_pair(out, 0, at);
-            numbers::number_of(r)
-        }
-    }
+    let told = numbers::tell(varint::index(bytes, numbers::place(at)), 0, at);
+    numbers::put_pair(out, told.value as u64, told.next);
+    told.number
 }
 
 // Of 16 bits.
@@ -36,16 +28,9 @@ pub extern "C" fn beside_small(bytes: &[u8], at: usize, out: &mut [u64; 2]) -> u
     ensures value { result ≡ answer (number_at 16 bytes.now at) }
     ensures out_after { out.new ≡ pair_or at (number_at 16 bytes.now at) }
 {
-    match varint::small(bytes, numbers::place(at)) {
-        ReadSmall::Got { value, next } => {
-            numbers::put_pair(out, value as u64, next.at);
-            0
-        }
-        ReadSmall::Refused(r) => {
-            numbers::put_pair(out, 0, at);
-            numbers::number_of(r)
-        }
-    }
+    let told = numbers::tell(varint::small(bytes, numbers::place(at)), 0, at);
+    numbers::put_pair(out, told.value as u64, told.next);
+    told.number
 }
 
 // A signed number.
@@ -55,18 +40,10 @@ pub extern "C" fn beside_signed(bytes: &[u8], at: usize, value: &mut i64, next: 
     ensures value_after { value.new ≡ value_or (pos 0) (signed_at bytes.now at) }
     ensures next_after { next.new ≡ next_or at (signed_at bytes.now at) }
 {
-    match varint::ivarint(bytes, numbers::place(at)) {
-        ReadSigned::Got { value: z, next: to } => {
-            *value = z;
-            *next = to.at;
-            0
-        }
-        ReadSigned::Refused(r) => {
-            *value = 0;
-            *next = at;
-            numbers::number_of(r)
-        }
-    }
+    let told = numbers::tell(varint::ivarint(bytes, numbers::place(at)), 0, at);
+    *value = told.value;
+    *next = told.next;
+    told.number
 }
 
 // The shortest form into the front of `out`; `size` is the bytes written, or the bytes needed where there is no room.
@@ -77,11 +54,11 @@ pub extern "C" fn beside_put(out: &mut [u8], value: u64, size: &mut usize) -> u6
     ensures size_after { size.new ≡ length (definition.shortest value) }
 {
     match varint::put(out, value) {
-        Written::Done { size: n } => {
+        Ok(n) => {
             *size = n;
             0
         }
-        Written::Refused(r) => {
+        Err(r) => {
             *size = varint::size(value);
             numbers::number_of(r)
         }

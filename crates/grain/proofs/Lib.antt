@@ -2,4 +2,3 @@
 pub mod Halves
 pub mod Telling
 pub mod Written
-pub mod Told

@@ -3,8 +3,10 @@ use Rattle.std.specs.Prelude.{ℕ, Bool, not, ◌&&◌, ◌≡◌, List, eqb}
 use Rattle.refusal.specs.declared.Row.{Row}
 use Rattle.refusal.specs.Numbers.{row_of, row_is}
 use Rattle.format.specs.declared.answer.Artifact.{Artifact}
+use Rattle.grain.specs.Positions.{encoded_row}
 use Rattle.rows.specs.Back.{word, index, chunk_of}
-use Rattle.varint.specs.declared.Written.{Written}
+use Rattle.refusal.specs.declared.Refusal.{Refusal}
+use Rattle.std.specs.Prelude.{Result, Ok, Err}
 use Rattle.model.specs.Lent.{Lent}
 use Rattle.model.specs.Rules.{bits, sound_chunk, span_at}
 use Rattle.model.specs.Written.{lowest_broken, bytes_of, answered, left}
@@ -44,9 +46,8 @@ abbrev pub heading_fits : List ℕ → Bool
 heading_fits words = bits 32 (word words 3) && sound_chunk (word words 14) (word words 15) (word words 16)
 
 -- the bytes written are the first value
-abbrev pub written_row : Written → Row
-written_row (Written.Done size) = row_is 0 size 0
-written_row (Written.Refused r) = row_of r
+abbrev pub written_row : Result ℕ Refusal → Row
+written_row = encoded_row
 
 -- strip 0 keeps
 abbrev pub stripped : ℕ → Bool

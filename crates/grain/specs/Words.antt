@@ -1,10 +1,10 @@
 -- The 32 words of an answer, in their order, and what `grain_read` leaves.
-use Rattle.std.specs.Prelude.{ℕ, ◌≡◌, List, [], ◌∷◌, replicate}
+use Rattle.refusal.specs.declared.Refusal.{Refusal}
+use Rattle.std.specs.Prelude.{ℕ, ◌≡◌, List, [], ◌∷◌, replicate, Result, Ok, Err}
 use Rattle.refusal.specs.declared.Row.{Row}
 use Rattle.refusal.specs.Numbers.{row_of}
 use Rattle.format.specs.File as definition
 use Rattle.format.specs.declared.answer.Artifact.{Artifact}
-use Rattle.format.specs.declared.answer.Answer.{Answer}
 use Rattle.reading.specs.Answer.{answer_of, places_of, tables_after}
 
 -- 0 number, 1 first value, 2 second value;
@@ -33,14 +33,14 @@ accepted_words a =
 abbrev pub refused_words : Row → List ℕ
 refused_words row = row.number ∷ row.first ∷ row.second ∷ replicate 29 0
 
-abbrev pub words_of : Answer → List ℕ
-words_of (Answer.Accepted a) = accepted_words a
-words_of (Answer.Refused r) = refused_words (row_of r)
+abbrev pub words_of : Result Artifact Refusal → List ℕ
+words_of (Ok a) = accepted_words a
+words_of (Err r) = refused_words (row_of r)
 
 -- 0, or the refusal's number
-abbrev pub number_in : Answer → ℕ
-number_in (Answer.Accepted a) = 0
-number_in (Answer.Refused r) = (row_of r).number
+abbrev pub number_in : Result Artifact Refusal → ℕ
+number_in (Ok a) = 0
+number_in (Err r) = (row_of r).number
 
 -- the result, the answer's words and the final content of every table are those of the definition
 pub record Leaves (mask : ℕ) (s : List ℕ) (entry exit : List (List ℕ)) (words : List ℕ) (result : ℕ) : Type 0 where

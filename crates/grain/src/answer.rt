@@ -2,15 +2,15 @@
 ghost use Rattle.std.specs.Prelude.{◌≡◌};
 ghost use Rattle.grain.specs.Words.{accepted_words, refused_words, words_of};
 
-use format::answer::{Answer, Artifact};
-use refusal::Row;
+use format::answer::Artifact;
+use refusal::{Refusal, Row};
 
-pub fn words(a: Answer) -> [u64; 32]
+pub fn words(a: Result<Artifact, Refusal>) -> [u64; 32]
     ensures { result ≡ words_of a }
 {
     match a {
-        Answer::Accepted(artifact) => accepted_words(artifact),
-        Answer::Refused(r) => refused_words(refusal::row_of(r)),
+        Ok(artifact) => accepted_words(artifact),
+        Err(r) => refused_words(Row::from(r)),
     }
 }
 

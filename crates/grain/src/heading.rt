@@ -5,7 +5,7 @@ ghost use Rattle.grain.specs.Heading.{outside_of, heading_fits};
 use format::answer::{Artifact, Header, Used};
 use format::records::Chunk;
 use grammar::Span;
-use rules::words::{both, fits_32, sound_chunk};
+use rules::words::{fits_32, sound_chunk};
 
 // Words that are wider than their kinds lose what is above: `fits` tells them.
 pub fn outside(words: [u64; 32]) -> Artifact
@@ -64,8 +64,5 @@ fn used(words: [u64; 32]) -> Used
 pub fn fits(words: [u64; 32]) -> bool
     ensures { result ≡ heading_fits words }
 {
-    both(
-        fits_32(words[3]),
-        sound_chunk(words[14], words[15], words[16]),
-    )
+    fits_32(words[3]) & sound_chunk(words[14], words[15], words[16])
 }

@@ -7,8 +7,8 @@ ghost use Rattle.position_table.specs.Table.{checked, counted, resolved};
 ghost use Rattle.grain.specs.Positions.{values_of, checked_row, counted_answer, count_or, encoded_row, found, site_values, halves_of};
 
 use crate::numbers;
-use position_table::{Checked, Counted, Encoded, Resolved};
-use refusal::Row;
+use position_table::Position;
+use refusal::{Refusal, Row};
 
 pub fn put_values(values: &mut [u64; 2], row: Row)
     ensures { values.new ≡ values_of row }
@@ -27,21 +27,22 @@ pub fn got_row(value: u64) -> Row
     }
 }
 
-fn checked_row(c: Checked) -> Row
+fn checked_row(c: Result<(), Refusal>) -> Row
     ensures { result ≡ checked_row c }
 {
     match c {
-        Checked::Sound => got_row(0),
-        Checked::Refused(r) => refusal::row_of(r),
+        Ok(()) => got_row(0),
+        Err(r) => Row::from(r),
     }
 }
 
-fn encoded_row(c: Encoded) -> Row
+// Of bytes that were written, or are not.
+pub fn encoded_row(c: Result<usize, Refusal>) -> Row
     ensures { result ≡ encoded_row c }
 {
     match c {
-        Encoded::Done { size } => got_row(size as u64),
-        Encoded::Refused(r) => refusal::row_of(r),
+        Ok(size) => got_row(size as u64),
+        Err(refused) => Row::from(refused),
     }
 }
 
@@ -60,11 +61,11 @@ pub fn grain_pos_count(table: &[u8], count: &mut u64) -> u64
     ensures count_after { count.new ≡ count_or (counted table.now) }
 {
     match pos::count(table) {
-        Counted::Entries(n) => {
+        Ok(n) => {
             *count = n as u64;
             0
         }
-        Counted::Refused(r) => {
+        Err(r) => {
             *count = 0;
             numbers::number_of(r)
         }
@@ -77,11 +78,11 @@ pub fn grain_pos_resolve(table: &[u8], address: u32, site: &mut [u64; 2]) -> u64
     ensures site_after { site.new ≡ site_values (resolved table.now address) }
 {
     match pos::resolve(table, address) {
-        Resolved::At { line, column } => {
+        Some(Position { line, column }) => {
             *site = [line as u64, column as u64];
             1
         }
-        Resolved::Nothing => {
+        None => {
             *site = [0, 0];
             0
         }

@@ -1,22 +1,11 @@
 // The writer of a whole artifact, for C.
-ghost use Rattle.std.specs.Prelude.{◌≡◌};
 ghost use Rattle.model.specs.Lent.{lent};
-ghost use Rattle.grain.specs.Heading.{outside_of, heading_fits, written_row, Tells};
+ghost use Rattle.grain.specs.Heading.{outside_of, heading_fits, Tells};
 
 use crate::heading;
-use crate::positions::{got_row, put_values};
-use refusal::Row;
-use varint::Written;
+use crate::positions::{encoded_row, put_values};
+use model::Lent;
 use writing::write;
-
-fn written_row(w: Written) -> Row
-    ensures { result ≡ written_row w }
-{
-    match w {
-        Written::Done { size } => got_row(size as u64),
-        Written::Refused(r) => refusal::row_of(r),
-    }
-}
 
 // The words that `grain_read` answers, thirteen tables and the text are lent to be looked at, the output to be written in. A refusal
 // leaves the output untouched.
@@ -44,11 +33,9 @@ pub fn grain_write(
     ensures { Tells mask strip (lent (outside_of heading.now) (heading_fits heading.now) names.now constants.now tokens.now assigns.now chains.now steps.now switches.now cases.now ranges.now customs.now inputs.now functions.now parameters.now text.now) out.old out.new values.new result }
 {
     let words = *heading;
-    let row = written_row(write::write(
-        heading::outside(words),
-        heading::fits(words),
-        mask,
-        strip != 0,
+    let l = Lent {
+        outside: heading::outside(words),
+        numbers_fit: heading::fits(words),
         names,
         constants,
         tokens,
@@ -63,8 +50,8 @@ pub fn grain_write(
         functions,
         parameters,
         text,
-        out,
-    ));
+    };
+    let row = encoded_row(write::write(&l, mask, strip != 0, out));
     put_values(values, row);
     row.number
 }

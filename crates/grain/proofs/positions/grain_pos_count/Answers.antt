@@ -2,10 +2,10 @@
 use mathlib.Core.Path.{refl}
 use Rattle.grain.proofs.positions.grain_pos_count.Goals as goal
 
-pub returns-in-Entries : goal.returns-in-Entries
-returns-in-Entries c =
-    record { value = rw (← c.count.ensures, c.in-Entries.is) refl; count_after = rw (← c.count.ensures, c.in-Entries.is) refl }
+pub returns-in-Ok : goal.returns-in-Ok
+returns-in-Ok c =
+    record { value = rw (← c.count.ensures, c.in-Ok.is) refl; count_after = rw (← c.count.ensures, c.in-Ok.is) refl }
 
-pub returns-in-Refused : goal.returns-in-Refused
-returns-in-Refused c =
-    record { value = rw (← c.count.ensures, c.in-Refused.is) c.number_of.ensures; count_after = rw (← c.count.ensures, c.in-Refused.is) refl }
+pub returns-in-Err : goal.returns-in-Err
+returns-in-Err c =
+    record { value = rw (← c.count.ensures, c.in-Err.is) c.number_of.ensures; count_after = rw (← c.count.ensures, c.in-Err.is) refl }

@@ -5,4 +5,4 @@ use Rattle.grain.proofs.write.grain_write.Goals as goal
 pub returns : goal.returns
 returns c =
     tells (rw (c.fits.ensures, c.outside.ensures) at c.write.ensures)
-    c.written_row-row.ensures c.put_values.ensures
+    c.encoded_row-row.ensures c.put_values.ensures

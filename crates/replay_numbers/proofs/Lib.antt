@@ -1,2 +1,0 @@
--- What a proof of this program needs of put.
-pub mod Room
