@@ -140,17 +140,17 @@ fn squeezed(x: u64) -> u64
     b & 0x0fff_ffff | (b & 0x0fff_ffff_0000_0000) >> 4
 }
 
-// A number of fewer bits.
+// A number of fewer bits. By `match`: with `?` in it LLVM finds it too large to be inlined where indices are read, and each of their
+// answers goes through memory.
 fn narrow<const BITS: u32>(s: &[u8], c: Cursor) -> Read<u64>
     requires { BITS < 64 }
     ensures value { definition.number BITS s.now c ≡ answer result }
     ensures fits { IfOk result (λ read. read.0 < 2 ^ BITS) }
 {
-    let (value, next) = uvarint(s, c)?;
-    if value < 1 << BITS {
-        Ok((value, next))
-    } else {
-        Err(Refusal::MalformedVarint)
+    match uvarint(s, c) {
+        Ok((value, next)) if value < 1 << BITS => Ok((value, next)),
+        Ok(_) => Err(Refusal::MalformedVarint),
+        Err(r) => Err(r),
     }
 }
 

@@ -2,19 +2,18 @@
 use Rattle.std.proofs.Common.{arith, ◌^◌, ◌<◌, le-ltb, lt-ltb}
 use Rattle.std.proofs.Math.Pow.{pow-lt}
 use Rattle.grammar.proofs.Number.{number-narrow}
-use Rattle.grammar.proofs.Read.{answer_refused}
 use Rattle.varint.proofs.narrow.Goals as goal
 
-pub returns-in_err-value-clause-value : goal.returns-in_err-value-clause-value
-returns-in_err-value-clause-value g c =
-    rw (number-narrow g.row.BITS (omega arith) c.args.s.now c.args.c, c.in_err-value.ensures, answer_refused _ _ _ c.from_residual.ensures.1)
-
-pub returns-then-value-clause-value : goal.returns-then-value-clause-value
-returns-then-value-clause-value g c =
+pub returns-in-Ok-clause-value : goal.returns-in-Ok-clause-value
+returns-in-Ok-clause-value g c =
     let fits : 2 ^ g.row.BITS < 2 ^ 64 = pow-lt {j = 64} (omega arith) in
-    rw (number-narrow g.row.BITS (omega arith) c.args.s.now c.args.c, c.in_ok-value.ensures, lt-ltb c.in_ok-value.value (2 ^ g.row.BITS) (omega arith))
+    rw (number-narrow g.row.BITS (omega arith) c.args.s.now c.args.c, c.uvarint.ensures, c.in-Ok.is, lt-ltb c.in-Ok.value (2 ^ g.row.BITS) (omega arith))
 
-pub returns-else-value-clause-value : goal.returns-else-value-clause-value
-returns-else-value-clause-value g c =
+pub returns-in-Ok-2-clause-value : goal.returns-in-Ok-2-clause-value
+returns-in-Ok-2-clause-value g c =
     let fits : 2 ^ g.row.BITS < 2 ^ 64 = pow-lt {j = 64} (omega arith) in
-    rw (number-narrow g.row.BITS (omega arith) c.args.s.now c.args.c, c.in_ok-value.ensures, le-ltb c.in_ok-value.value (2 ^ g.row.BITS) (omega arith))
+    rw (number-narrow g.row.BITS (omega arith) c.args.s.now c.args.c, c.uvarint.ensures, c.in-Ok.is, le-ltb c.in-Ok.value (2 ^ g.row.BITS) (omega arith))
+
+pub returns-in-Err-clause-value : goal.returns-in-Err-clause-value
+returns-in-Err-clause-value g c =
+    rw (number-narrow g.row.BITS (omega arith) c.args.s.now c.args.c, c.uvarint.ensures, c.in-Err.is)
