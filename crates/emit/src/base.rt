@@ -91,7 +91,19 @@ pub fn copied(out: &mut [u8], at: usize, text: &[u8], from: usize, n: usize) -> 
     if n == 0 || room < n {
         return at;
     }
-    out[at..at + n].copy_from_slice(&text[from..from + n]);
+    copied_each(out, at, text, from, n)
+}
+
+// One byte after the other. So many as are known only here would be copied as a slice by memmove, which the archive would need from
+// outside.
+fn copied_each(out: &mut [u8], at: usize, text: &[u8], from: usize, n: usize) -> usize
+    requires there { n ≤ length text.now - from }
+    requires room { at + n ≤ length out.old }
+    ensures { Puts (take n (drop from text.now)) out.old at out.new result }
+{
+    for i in 0..n {
+        out[at + i] = text[from + i];
+    }
     at + n
 }
 
