@@ -88,7 +88,9 @@ fn entry_size(previous: u32, site: Site) -> usize
     width(step) + width(site.line) + width(site.column)
 }
 
-// The first pass: those of line 0 are dropped, and the others must ascend.
+// The first pass: those of line 0 are dropped, and the others must ascend. Neither pass is inlined: with both in one function there are
+// not registers enough for a loop.
+#[inline(never)]
 fn measure<S: Sites>(sites: &S) -> Result<Measured, Refusal>
     requires { length (S.list sites.now) ≤ 262144 }
     ensures { result ≡ measured_of (S.list sites.now) }
@@ -177,6 +179,7 @@ fn put_entry(out: &mut [u8], at: usize, previous: u32, site: Site) -> usize
 }
 
 // The second pass, for those that have tested the room: the count, and then the sites.
+#[inline(never)]
 fn write<S: Sites>(sites: &S, count: usize, out: &mut [u8])
     requires counted { count ≡ length (kept (S.list sites.now)) }
     requires room { length (bytes_of (kept (S.list sites.now))) ≤ length out.old }
