@@ -6,6 +6,8 @@
 //   put 300                                      the bytes of its shortest form
 //   utf8 e282ac                                  yes or no
 // Any other line is answered by `bad line`. The file stdout has what the Rust original answered (docs/BESIDE.md).
+ghost use Rattle.std.specs.Prelude.{◌≡◌, ◌/◌, ◌<◌, ◌≤◌, IfSome, length};
+
 use grammar::{Cursor, Read};
 use refusal::{Refusal, Row};
 
@@ -67,7 +69,9 @@ fn put(value: u64) {
 }
 
 // The number that a hexadecimal digit stands for; capitals are none.
-fn digit(c: u8) -> Option<u8> {
+fn digit(c: u8) -> Option<u8>
+    ensures { IfSome result (λ d. d < 16) }
+{
     match c {
         b'0'..=b'9' => Some(c - b'0'),
         b'a'..=b'f' => Some(c - b'a' + 10),
@@ -76,7 +80,10 @@ fn digit(c: u8) -> Option<u8> {
 }
 
 // The bytes that digits stand for, two for each byte; none where they are no such digits or have no room.
-fn unhex<'a>(given: &[u8], out: &'a mut [u8]) -> Option<&'a [u8]> {
+fn unhex<'a>(given: &[u8], out: &'a mut [u8]) -> Option<&'a [u8]>
+    ensures few { IfSome result (λ bytes. length bytes.now ≤ length out.old) }
+    ensures two_for_each { IfSome result (λ bytes. length bytes.now ≡ length given.now / 2) }
+{
     let n = given.len() / 2;
     if given.len() % 2 != 0 || out.len() < n {
         return None;
