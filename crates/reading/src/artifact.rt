@@ -8,8 +8,8 @@ use format::answer::{Artifact, Used};
 use grammar::{Cursor, Read};
 use refusal::Refusal;
 
-// The first refusal, or what stands outside the tables. Each section is read into its tables, whatever they hold; where one is refused, those
-// before it hold what was read.
+// The first refusal, or what stands outside the tables. Each section is read into its tables, whatever they hold; of a refused file nothing is
+// said of them here, since `read` clears them all.
 pub fn artifact(
     s: &[u8],
     mask: u8,

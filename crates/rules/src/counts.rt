@@ -5,7 +5,7 @@ ghost use Rattle.model.specs.Told.{lent_is};
 
 use model::Lent;
 
-fn fits(used: usize, width: usize, words: usize) -> bool
+pub fn fits(used: usize, width: usize, words: usize) -> bool
     requires { 0 < width }
     ensures { result ≡ leb used (words / width) }
 {

@@ -2,7 +2,7 @@
 // The header, the names, the sections whose records stand in one table, and the position table.
 
 pub mod assigns;
-mod fixed;
+pub mod fixed;
 pub mod header;
 pub mod names;
 pub mod positions;
