@@ -20,7 +20,7 @@ overflow_add-end c =
 
 pub slice_bounds-check_long-end : goal.slice_bounds-check_long-end
 slice_bounds-check_long-end c =
-    (bytes_run _ _ _ _ c.in_ok-table.ensures).within
+    omega (arith, (bytes_run _ _ _ _ c.in_ok-table.ensures).within)
 
 pub returns-in_err-check_long : goal.returns-in_err-check_long
 unfolding positions sound ◌>>=◌ refuse
